@@ -1,0 +1,12 @@
+pub mod Computed
+pub mod Pigeonhole
+pub mod Powers
+pub mod Derived
+pub mod Inverses
+pub mod Orders
+pub mod Remainders
+pub mod PrimeLaws
+pub mod Linear
+pub mod Polynomials
+pub mod BinaryLaws
+pub mod Examples

@@ -1,0 +1,3 @@
+pub mod Field
+pub mod Prime
+pub mod Binary

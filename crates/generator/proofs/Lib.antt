@@ -1,0 +1,3 @@
+pub mod Horner
+pub mod Reading
+pub mod Examples

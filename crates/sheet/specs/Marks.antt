@@ -1,0 +1,22 @@
+-- What a sheet's list of marks is cut to, and what a read of it answers.
+use Prim.Native.Nat.{ℕ, _<_, _≤_}
+use lib.ListN.{length, getD, take, length-take}
+use mathlib.Core.List.{List}
+use mathlib.Core.Path.{_≡_}
+use native.Mathlib.Omega.{arith}
+use Rattle.denial.specs.Refusals.{refusal, refused}
+use Rattle.denial.specs.declared.Denial.{Denial}
+use Rattle.std.specs.declared.result.Result.{Result}
+use Rattle.std.specs.declared.result.Result.the-variants.{Ok, Err}
+
+-- the first 65,536 marks, or all of fewer
+abbrev pub cut : List ℕ → List ℕ
+cut xs = take 65536 xs
+
+pub cut-short : (xs : List ℕ) → length (cut xs) ≤ 65536
+cut-short xs = omega (arith, length-take 65536 xs)
+
+-- a block below the length is answered by its mark, and any other is denied
+abbrev pub Reads : List ℕ → ℕ → Result ℕ Denial → Type 0
+Reads marks block (Ok mark) = (block < length marks) × (mark ≡ getD marks block 0)
+Reads marks block (Err denial) = (length marks ≤ block) × (refusal denial ≡ refused 7 3 block)

@@ -1,0 +1,44 @@
+// Sheets: lists of marks, one 32-bit number for each block of a drawing set.
+ghost use Prim.Native.Nat.{ℕ, _≤_, min};
+ghost use Rattle.sheet.specs.Marks.{Reads};
+ghost use denote.Ref.{now};
+ghost use lib.ListN.{length};
+ghost use mathlib.Core.List.{List};
+ghost use mathlib.Core.Path.{_≡_};
+use denial::Denial;
+
+mod strips;
+mod tables;
+#[cfg(test)]
+mod tests;
+
+pub use strips::Strip;
+pub use strips::StripReadable;
+pub use tables::Table;
+pub use tables::TableReadable;
+
+// No sheet has more blocks: what a longer source holds behind them is not part of its sheet.
+pub const MAX_BLOCKS: usize = 65_536;
+
+// How many of the numbers of a source are blocks.
+fn block_count(numbers: usize) -> usize
+    ensures { λ r. ⌜ r ≡ min numbers 65536 ⌝ }
+{
+    numbers.min(MAX_BLOCKS)
+}
+
+// A sheet whose marks can be read. Reading alters nothing.
+pub trait Readable {
+    // The marks, from block 0 on.
+    ghost marks: { Self → List ℕ };
+
+    ghost short: { (s : Self) → length (marks s) ≤ 65536 };
+
+    // The number of blocks.
+    fn len(&self) -> usize
+        ensures { λ r. ⌜ r ≡ length (marks (now (self .entry))) ⌝ };
+
+    // The mark of a block.
+    fn read(&self, block: usize) -> Result<u32, Denial>
+        ensures { λ r. ⌜ Reads (marks (now (self .entry))) block r ⌝ };
+}

@@ -2,6 +2,7 @@
 //
 // A field of q elements has the numbers 0 to q - 1 as its codes. Each call takes any numbers and gives a code: a number of q or more counts
 // as its remainder by q.
+ghost use Prim.Native.Nat.{_-_, _<_};
 ghost use Rattle.field.specs.Field.{Arithmetic, Laws, power};
 ghost use mathlib.Core.Path.{_≡_};
 
@@ -14,6 +15,14 @@ pub use binary_field::Binary;
 pub use binary_field::BinaryField;
 pub use prime_field::Prime;
 pub use prime_field::PrimeField;
+
+// The exponent e for which a^e is the inverse of each code a but 0, in a field of `size` codes.
+fn inverse_exponent(size: u32) -> usize
+    requires { ⌜ 1 < size ⌝ }
+    ensures { λ r. ⌜ r ≡ size - 2 ⌝ }
+{
+    size as usize - 2
+}
 
 pub trait Field {
     // What the codes mean: their sums and products, the base, and the field's numbers.
@@ -81,7 +90,7 @@ pub trait Field {
         Self::pow(Self::base(), exponent)
     }
 
-    // The inverse, as the power a^(q - 2); 0 for 0.
+    // The inverse; 0 for 0.
     fn inv(a: u32) -> u32
         ensures { λ r. ⌜ r ≡ arithmetic .invert a ⌝ }
     {
@@ -89,6 +98,6 @@ pub trait Field {
         if a % size == 0 {
             return 0;
         }
-        Self::pow(a, size as usize - 2)
+        Self::pow(a, inverse_exponent(size))
     }
 }

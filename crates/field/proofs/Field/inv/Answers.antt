@@ -21,5 +21,6 @@ returns g c =
     let a = c .args .a in
     let other = rw (c .size-size .ensures) at (c .if-a-size-eq0 .left) in
     let some : 0 < a % A .size = omega arith in
-    c .pow .ensures ∙ ap (λ n. power A a (n - 2)) (c .size-size .ensures) ∙ power-remainder (products L) a (A .size - 2)
+    let exponent = c .inverse-exponent .ensures ∙ ap (λ n. n - 2) (c .size-size .ensures) in
+    c .pow .ensures ∙ ap (power A a) exponent ∙ power-remainder (products L) a (A .size - 2)
     ∙ sym (L .invert-remainder a ∙ inverse-power L (a % A .size) some (remainder-code L a))

@@ -4,7 +4,6 @@ ghost use Rattle.std.specs.Vec.{made};
 ghost use Rattle.sums.specs.Reports.{report, sum-line, sum-lines};
 ghost use mathlib.Core.List.{_++_};
 ghost use mathlib.Core.Path.{_≡_};
-use denial::DenialError;
 use field::Binary;
 use field::BinaryField;
 use field::Field;
@@ -33,11 +32,13 @@ fn add_sums<F: Field, S: Readable>(
     heap: Global,
     text: &mut String,
     sheet: &S,
-) -> Result<(), AnyError>
+) -> Result<(), AllocError>
     ensures { λ r. ⌜ made r (λ _. string-bytes (now (text .exit)) ≡ string-bytes (now (text .entry)) ++ sum-lines (F·Field .arithmetic) (S·Readable .marks (now (sheet .entry))) 16) ⌝ }
 {
     for place in 0..PLACES {
-        let sum = sum_at::<F, S>(sheet, place)?;
+        let Ok(sum) = sum_at::<F, S>(sheet, place) else {
+            unreachable()
+        };
         let line = sum_line(heap, F::kind(), place, sum)?;
         text.push_str(line.as_str())?;
     }
@@ -45,7 +46,7 @@ fn add_sums<F: Field, S: Readable>(
 }
 
 // What the program prints for an input.
-fn describe(heap: Global, input: &[u8]) -> Result<String, AnyError>
+fn describe(heap: Global, input: &[u8]) -> Result<String, AllocError>
     ensures { λ r. ⌜ made r (λ text. string-bytes text ≡ report (now (input .entry))) ⌝ }
 {
     let strip = Strip::new(input);

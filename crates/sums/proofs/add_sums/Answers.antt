@@ -18,7 +18,7 @@ loop-place-again g c =
     let marks = g .S·Readable .marks (c .args .sheet .now) in
     let place = c .loop-place .place in
     let line : string-bytes (c .in-Continue-line .line) ≡ sum-line (A .kind) place (sum-at A marks place) =
-    c .in-Continue-line .ensures tt ∙ ap₂ (λ kind sum. sum-line kind place sum) (c .kind .ensures) (c .in-Continue-sum .ensures tt .1) in
+    c .in-Continue-line .ensures tt ∙ ap₂ (λ kind sum. sum-line kind place sum) (c .kind .ensures) (c .in-Ok .ensures tt .1) in
     rw add-one (c .in-Continue-push-str .ensures tt .bytes ∙ ap₂ _++_ (c .loop-place .inv) (c .as-str .ensures .value ∙ line)
     ∙ append-assoc (string-bytes (c .args .text .now)) (sum-lines A marks place) (sum-line (A .kind) place (sum-at A marks place)))
 

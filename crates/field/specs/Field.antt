@@ -2,8 +2,8 @@
 use mathlib.Core.Path.{_≡_}
 use Prim.Native.Nat.{ℕ, zero, suc, _%_, _<_, _≤_, _^_}
 
--- The operations take any numbers. `base` is a code whose powers below `order` are told apart, `kind` is the number that names the field in
--- a message, and `width` is how many bytes a value takes there.
+-- The operations take any numbers. `base` is a code whose powers with an exponent below `order` are all different, `kind` is the number that
+-- names the field in a message, and `width` is how many bytes a value takes there.
 pub record Arithmetic : Type 0 where
   pub size : ℕ
   pub plus : ℕ → ℕ → ℕ

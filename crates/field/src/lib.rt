@@ -35,7 +35,7 @@ pub trait Field {
     fn size() -> u32
         ensures { λ r. ⌜ r ≡ arithmetic .size ⌝ };
 
-    // A code whose powers from the 0th on are different, up to the order.
+    // A code whose powers with an exponent below the order are all different.
     fn base() -> u32
         ensures { λ r. ⌜ r ≡ arithmetic .base ⌝ };
 

@@ -79,7 +79,7 @@ pub impl Field for Prime as PrimeField {
     fn base_pow(exponent: usize) -> u32 {
         let mut power = 1;
         let mut left = exponent % ORDER;
-        for i in 0..16usize {
+        for i in 0..SQUARES.len() {
             if left % 2 == 1 {
                 power = Self::mul(square_of_base(i), power);
             }

@@ -16,6 +16,11 @@ cut xs = take 65536 xs
 pub cut-short : (xs : List ℕ) → length (cut xs) ≤ 65536
 cut-short xs = omega (arith, length-take 65536 xs)
 
+-- a block of a sheet of n blocks is granted, and any other is denied
+abbrev pub Checks : ℕ → ℕ → Result (Unit {0}) Denial → Type 0
+Checks n block (Ok granted) = block < n
+Checks n block (Err denial) = (n ≤ block) × (refusal denial ≡ refused 7 3 block)
+
 -- a block below the length is answered by its mark, and any other is denied
 abbrev pub Reads : List ℕ → ℕ → Result ℕ Denial → Type 0
 Reads marks block (Ok mark) = (block < length marks) × (mark ≡ getD marks block 0)

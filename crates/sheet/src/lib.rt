@@ -1,6 +1,6 @@
 // Sheets: lists of marks, one 32-bit number for each block of a drawing set.
 ghost use Prim.Native.Nat.{ℕ, _≤_, min};
-ghost use Rattle.sheet.specs.Marks.{Reads};
+ghost use Rattle.sheet.specs.Marks.{Checks, Reads};
 ghost use denote.Ref.{now};
 ghost use lib.ListN.{length};
 ghost use mathlib.Core.List.{List};
@@ -25,6 +25,17 @@ fn block_count(numbers: usize) -> usize
     ensures { λ r. ⌜ r ≡ min numbers 65536 ⌝ }
 {
     numbers.min(MAX_BLOCKS)
+}
+
+// Whether a sheet of so many blocks has the block.
+fn check_block(block: usize, blocks: usize) -> Result<(), Denial>
+    ensures { λ r. ⌜ Checks blocks block r ⌝ }
+{
+    if block < blocks {
+        Ok(())
+    } else {
+        Err(Denial::BlockOutside { block })
+    }
 }
 
 // A sheet whose marks can be read. Reading alters nothing.

@@ -6,6 +6,7 @@ ghost use lib.ListN.{getD, length};
 ghost use mathlib.Core.Path.{_≡_};
 use crate::Readable;
 use crate::block_count;
+use crate::check_block;
 use denial::Denial;
 
 #[derive(Drop)]
@@ -39,10 +40,7 @@ pub impl<'a> Readable for Strip<'a> as StripReadable {
     }
 
     fn read(&self, block: usize) -> Result<u32, Denial> {
-        if block < self.len() {
-            Ok(self.mark(block))
-        } else {
-            Err(Denial::BlockOutside { block })
-        }
+        check_block(block, self.len())?;
+        Ok(self.mark(block))
     }
 }

@@ -19,8 +19,7 @@ abbrev pub refusal : Denial → Refusal
 refusal (BlockOutside block) = refused 7 3 block
 refusal (PlaceOutside place) = refused 13 2 place
 
--- the text of a denial
-abbrev pub text : Denial → List ℕ
-text d =
-    let r = refusal d in
+-- the text of a refusal
+abbrev pub text : Refusal → List ℕ
+text r =
     codes "denied: number " ++ (decimal (r .number) ++ (codes ", layer " ++ (decimal (r .layer) ++ (codes ", place " ++ decimal (r .place)))))

@@ -46,7 +46,7 @@ impl Denial {
 }
 
 pub impl fmt::Display for Denial as DenialDisplay {
-    ghost shown = { λ d. Some (text d) };
+    ghost shown = { λ d. Some (text (refusal d)) };
 
     fn fmt<W: fmt::Write>(&self, f: &mut fmt::Formatter<W>) -> fmt::Result {
         let number = self.number();

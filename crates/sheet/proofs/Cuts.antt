@@ -1,7 +1,7 @@
 -- A list that is cut after 65,536 marks.
 use Prim.Native.Nat.{ℕ, _<_, min}
-use lib.ListN.{length, getD, length-take}
-use lib.Seq.{getD-take}
+use lib.ListN.{length, getD, set, length-take}
+use lib.Seq.{getD-take, take-set-lt}
 use mathlib.Core.List.{List}
 use mathlib.Core.Path.{_≡_, sym}
 use native.Mathlib.Omega.{arith}
@@ -17,3 +17,6 @@ pub cut-at : (xs : List ℕ) (block : ℕ) → block < length (cut xs) → getD 
 cut-at xs block h =
     let below : block < 65536 = omega (arith, length-take 65536 xs) in
     sym (getD-take 65536 xs block 0 below)
+
+pub cut-set : (xs : List ℕ) (block mark : ℕ) → block < length (cut xs) → cut (set xs block mark) ≡ set (cut xs) block mark
+cut-set xs block mark h = let below : block < 65536 = omega (arith, length-take 65536 xs) in take-set-lt 65536 xs block mark below

@@ -1,6 +1,6 @@
--- What a sheet's list of marks is cut to, and what a read of it answers.
+-- What a sheet's list of marks is cut to, and what a read and a write of it answer.
 use Prim.Native.Nat.{ℕ, _<_, _≤_}
-use lib.ListN.{length, getD, take, length-take}
+use lib.ListN.{length, getD, set, take, length-take}
 use mathlib.Core.List.{List}
 use mathlib.Core.Path.{_≡_}
 use native.Mathlib.Omega.{arith}
@@ -25,3 +25,8 @@ Checks n block (Err denial) = (n ≤ block) × (refusal denial ≡ refused 7 3 b
 abbrev pub Reads : List ℕ → ℕ → Result ℕ Denial → Type 0
 Reads marks block (Ok mark) = (block < length marks) × (mark ≡ getD marks block 0)
 Reads marks block (Err denial) = (length marks ≤ block) × (refusal denial ≡ refused 7 3 block)
+
+-- a write to a block below the length puts the mark there and alters no other block; any other is denied, and the sheet is as it was
+abbrev pub Writes : {Sheet : Type 0} (marks : Sheet → List ℕ) (before : Sheet) (block mark : ℕ) (after : Sheet) → Result (Unit {0}) Denial → Type 0
+Writes marks before block mark after (Ok granted) = (block < length (marks before)) × (marks after ≡ set (marks before) block mark)
+Writes marks before block mark after (Err denial) = (length (marks before) ≤ block) × (after ≡ before) × (refusal denial ≡ refused 7 3 block)

@@ -1,21 +1,32 @@
 // Sheets: lists of marks, one 32-bit number for each block of a drawing set.
 ghost use Prim.Native.Nat.{ℕ, _≤_, min};
-ghost use Rattle.sheet.specs.Marks.{Checks, Reads};
+ghost use Rattle.sheet.specs.Marks.{Checks, Reads, Writes};
 ghost use denote.Ref.{now};
 ghost use lib.ListN.{length};
 ghost use mathlib.Core.List.{List};
 ghost use mathlib.Core.Path.{_≡_};
 use denial::Denial;
 
+mod holds;
+mod joins;
+mod records;
 mod strips;
 mod tables;
 #[cfg(test)]
 mod tests;
 
+pub use holds::Held;
+pub use holds::HeldReadable;
+pub use holds::HeldWritable;
+pub use holds::MAX_HELD;
+pub use joins::Joined;
+pub use joins::JoinedReadable;
+pub use joins::JoinedWritable;
 pub use strips::Strip;
 pub use strips::StripReadable;
 pub use tables::Table;
 pub use tables::TableReadable;
+pub use tables::TableWritable;
 
 // No sheet has more blocks: what a longer source holds behind them is not part of its sheet.
 pub const MAX_BLOCKS: usize = 65_536;
@@ -52,4 +63,11 @@ pub trait Readable {
     // The mark of a block.
     fn read(&self, block: usize) -> Result<u32, Denial>
         ensures { λ r. ⌜ Reads (marks (now (self .entry))) block r ⌝ };
+}
+
+// A readable sheet whose marks can be written too.
+pub trait Writable: Readable {
+    // Puts a mark at a block, and alters no other block nor their number. A denied write alters nothing.
+    fn write(&mut self, block: usize, mark: u32) -> Result<(), Denial>
+        ensures { λ r. ⌜ Writes (Self·Readable .marks) (now (self .entry)) block mark (now (self .exit)) r ⌝ };
 }

@@ -1,5 +1,4 @@
 // Writes marks into a pile of sheets, more than it can hold, flushes them, and reads all of them back.
-ghost use Prim.Native.Nat.{_+_};
 ghost use Rattle.pile.specs.Reports.{read-line, read-lines, report, stepped, write-line, write-lines};
 ghost use Rattle.sheet.specs.Joins.{joined};
 ghost use Rattle.sheet.specs.Marks.{cut};
@@ -8,7 +7,6 @@ ghost use Rattle.std.specs.Vec.{made};
 ghost use lib.ListN.{length, set};
 ghost use mathlib.Core.List.{_++_};
 ghost use mathlib.Core.Path.{_≡_};
-use denial::Denial;
 use denial::DenialDisplay;
 use sheet::Held;
 use sheet::HeldReadable;
@@ -27,8 +25,8 @@ use std::error::AnyError;
 
 const STEPS: usize = 100;
 
-// Writes a mark, and tells the answer.
-fn write_line<S: Writable>(
+// Writes a mark, and gives the line that tells the answer.
+fn try_write<S: Writable>(
     heap: Global,
     sheet: &mut S,
     block: usize,
@@ -48,7 +46,7 @@ fn add_writes<S: Writable>(heap: Global, text: &mut String, sheet: &mut S) -> Re
     ensures { λ r. ⌜ made r (λ _. (string-bytes (now (text .exit)) ≡ string-bytes (now (text .entry)) ++ write-lines (S·Readable .marks (now (sheet .entry))) 100) × (S·Readable .marks (now (sheet .exit)) ≡ stepped (S·Readable .marks (now (sheet .entry))) 100)) ⌝ }
 {
     for step in 0..STEPS {
-        let line = write_line(heap, sheet, step * 5 % 66, 1000 + step as u32)?;
+        let line = try_write(heap, sheet, step * 5 % 66, 1000 + step as u32)?;
         text.push_str(line.as_str())?;
     }
     Ok(())

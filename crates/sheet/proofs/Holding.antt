@@ -1,8 +1,8 @@
 -- A write that a held sheet passes on to the sheet below.
-use Prim.Native.Nat.{ℕ, _<_, _≤_}
-use lib.ListN.{length, set}
+use Prim.Native.Nat.{ℕ, _≤_}
+use lib.ListN.{length}
 use mathlib.Core.List.{List}
-use mathlib.Core.Path.{_≡_, refl, ap, _∙_}
+use mathlib.Core.Path.{refl, ap, _∙_}
 use native.Mathlib.Omega.{arith}
 use Rattle.denial.specs.declared.Denial.{Denial}
 use Rattle.sheet.proofs.Overlays.{over-below}

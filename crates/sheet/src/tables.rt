@@ -19,6 +19,7 @@ pub struct Table<'a> {
 impl<'a> Table<'a> {
     pub fn new(numbers: &'a mut [u32]) -> Table<'a>
         ensures same { λ r. ⌜ now (r .numbers) ≡ now (numbers .entry) ⌝ }
+        ensures list { λ r. ⌜ cut (now (r .numbers)) ≡ cut (now (numbers .entry)) ⌝ }
         ensures lender { λ r. ⌜ name (r .numbers) ≡ name (numbers .entry) ⌝ }
     {
         Table { numbers }

@@ -1,8 +1,8 @@
-use mathlib.Core.List.{_++_, append-assoc, append-nil}
-use mathlib.Core.Path.{_≡_, sym, ap, ap₂, _∙_}
+use mathlib.Core.List.{append-nil}
+use mathlib.Core.Path.{_≡_, sym, ap, _∙_}
 use lib.ListN.{getD}
 use native.Mathlib.Numerals.{add-one}
-use native.Mathlib.Omega.{arith}
+use Rattle.pile.proofs.Lines.{line-added}
 use Rattle.pile.proofs.add_reads.Needs as need
 use Rattle.pile.specs.Reports.{read-line, read-lines}
 use Rattle.std.specs.Of.String.{string-bytes}
@@ -18,5 +18,6 @@ loop-block-again g c =
     let block = c .loop-block .block in
     let line : string-bytes (c .in-Continue-line .line) ≡ read-line block (getD marks block 0) =
     c .in-Continue-line .ensures tt ∙ ap (read-line block) (c .in-Ok .ensures tt .1) in
-    rw add-one (c .in-Continue-push-str .ensures tt .bytes ∙ ap₂ _++_ (c .loop-block .inv) (c .as-str .ensures .value ∙ line)
-    ∙ append-assoc (string-bytes (c .args .text .now)) (read-lines marks block) (read-line block (getD marks block 0)))
+    rw add-one
+    (line-added (string-bytes (c .args .text .now)) (read-lines marks block) (read-line block (getD marks block 0))
+    (c .in-Continue-push-str .ensures tt .bytes) (c .loop-block .inv) (c .as-str .ensures .value ∙ line))

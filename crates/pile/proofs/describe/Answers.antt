@@ -6,7 +6,6 @@ use Prim.Native.Nat.{ℕ}
 use Rattle.pile.proofs.describe.Needs as need
 use Rattle.pile.specs.Reports.{blocks-line, read-lines, report, stepped, write-lines}
 use Rattle.sheet.specs.Joins.{joined}
-use Rattle.sheet.specs.Marks.{cut}
 
 -- the text grows by the lines of each part, of a list that goes on as it is
 module _ {marks made wrote flushed : List ℕ} {blocks writes flush reads : List ℕ} where
@@ -22,9 +21,7 @@ module _ {marks made wrote flushed : List ℕ} {blocks writes flush reads : List
 
 pub returns : need.returns
 returns c =
-    let first = c .new-inner .ensures .list ∙ ap cut (c .new .ensures .same) in
-    let second = ap cut (c .new-2 .ensures .same) in
-    reported (c .new-pile .ensures .list ∙ c .new-3 .ensures .list ∙ ap₂ joined first second)
+    reported (c .new-pile .ensures .list ∙ c .new-3 .ensures .list ∙ ap₂ joined (c .new-inner .ensures .list ∙ c .new .ensures .list) (c .new-2 .ensures .list))
     (c .in-Continue-add-writes .ensures tt .1) (c .flush .ensures .list)
     (simp (c .len-blocks .ensures) at (c .in-Continue-text .ensures tt .made))
     (c .in-Continue-add-writes .ensures tt .0) (c .in-Continue-push-str .ensures tt .bytes)

@@ -1,5 +1,4 @@
 use Prim.Native.Nat.{min, _+_}
-use lib.ListN.{length-take}
 use mathlib.Core.List.{List}
 use mathlib.Core.Path.{refl, ap, _∙_}
 use native.Mathlib.Omega.{arith}
@@ -21,7 +20,7 @@ returns-in-Some g c =
     let more = one-more (h .records) (min (h .count) 32) i (min (i + 1) 32) (record-of block mark) (c .in-Some .ensures tt .1) (omega arith) (omega arith) (omega (arith, c .in-Some .ensures tt .0)) in
     record {
       wrote = (c .pre .inside, ap (λ (held : List Record). over held marks) more ∙ over-last (holding h) (record-of block mark) marks ∙ over-below block mark (holding h) marks (c .pre .absent));
-      put = added (c .pre .absent) (omega (arith, c .in-Some .ensures tt .0, c .in-Some .ensures tt .1)) more refl;
+      put = added (c .pre .absent) (omega (arith, c .in-Some .ensures tt .0, c .in-Some .ensures tt .1)) more (refl {a = marks});
     }
 
 pub returns-in-None : need.returns-in-None

@@ -1,4 +1,4 @@
-use Prim.Native.Nat.{min, _≤_}
+use Prim.Native.Nat.{min}
 use lib.ListN.{length, length-take}
 use mathlib.Core.Path.{ap}
 use native.Mathlib.Omega.{arith}

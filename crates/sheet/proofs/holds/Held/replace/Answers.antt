@@ -20,5 +20,5 @@ returns g c =
     let changed = one-changed (h .records) (min (h .count) 32) (c .args .index) 0 (record-of (c .args .block) (c .args .mark)) (c .pre .inside) in
     record {
       list = ap (λ (held : List Record). over held marks) changed ∙ over-replaced (c .args .block) (c .args .mark) (holding h) marks (c .args .index) (c .pre);
-      put = replaced (c .args .index) (c .pre) changed refl;
+      put = replaced (c .args .index) (c .pre) changed (refl {a = marks});
     }

@@ -5,7 +5,7 @@ use mathlib.Core.Bool.{Bool, cond}
 use mathlib.Core.List.{List}
 use mathlib.Core.Path.{_≡_, sym, ap, subst, _∙_}
 use Rattle.denial.specs.Refusals.{refusal, refused, text}
-use Rattle.pile.proofs.write_line.Needs as need
+use Rattle.pile.proofs.try_write.Needs as need
 use Rattle.pile.specs.Reports.{answer-line, write-line}
 use Rattle.sheet.proofs.Written.{written}
 use Rattle.std.proofs.shelf.Tests.{le-ltb}

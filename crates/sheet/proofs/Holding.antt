@@ -9,7 +9,7 @@ use Rattle.sheet.proofs.Overlays.{over-below}
 use Rattle.sheet.specs.Holds.{holding, overlaid, Held-puts}
 use Rattle.sheet.specs.Marks.{Writes}
 use Rattle.sheet.specs.Overlays.{over, Absent, over-length}
-use Rattle.sheet.specs.Overlays.Puts.{passed}
+use Rattle.sheet.specs.Holds.Held-puts.{passed}
 use Rattle.sheet.specs.declared.holds.Held.{Held}
 use Rattle.std.specs.Vec.{made}
 use Rattle.std.specs.declared.result.Result.{Result}
@@ -19,9 +19,9 @@ module _ {S : Type 0} (below-marks : S → List ℕ) (h : Held S) (block mark : 
   pub wrote-below : (r : Result (Unit {0}) Denial) → Writes below-marks (h .below) block mark after r → Writes (overlaid below-marks) h block mark record { below = after; records = h .records; count = h .count } r
   wrote-below (Ok granted) (p, e) =
       (omega (arith, over-length (holding h) (below-marks (h .below))), ap (over (holding h)) e ∙ over-below block mark (holding h) (below-marks (h .below)) absent)
-  wrote-below (Err denial) (p, e, q) =
-      (omega (arith, over-length (holding h) (below-marks (h .below))), ap (λ (b : S). record { below = b; records = h .records; count = h .count }) e, q)
+  wrote-below (Err denial) (out, e) =
+      ((omega (arith, over-length (holding h) (below-marks (h .below)), out .0), out .1), ap (λ (b : S). record { below = b; records = h .records; count = h .count }) e)
 
   pub put-below : 32 ≤ length (holding h) → (r : Result (Unit {0}) Denial) → Writes below-marks (h .below) block mark after r → made r (λ granted. Held-puts below-marks h block mark record { below = after; records = h .records; count = h .count })
   put-below full (Ok granted) (p, e) = passed absent full refl e
-  put-below full (Err denial) (p, e, q) = tt
+  put-below full (Err denial) p = tt

@@ -11,4 +11,4 @@ use Rattle.std.specs.declared.result.Result.the-variants.{Ok, Err}
 
 pub written : {S : Type 0} (marks : S → List ℕ) (before after : S) (block mark : ℕ) (r : Result (Unit {0}) Denial) → Writes marks before block mark after r → marks after ≡ set (marks before) block mark
 written marks before after block mark (Ok granted) (h, e) = e
-written marks before after block mark (Err denial) (h, e, q) = ap marks e ∙ sym (set-out (marks before) block mark h)
+written marks before after block mark (Err denial) (out, e) = ap marks e ∙ sym (set-out (marks before) block mark (out .0))

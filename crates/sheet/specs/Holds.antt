@@ -1,11 +1,11 @@
 -- A sheet that holds marks over the sheet below it.
-use Prim.Native.Nat.{ℕ, _<_, min}
+use Prim.Native.Nat.{ℕ, _<_, _≤_, min}
 use lib.ListN.{length, getD, set, take}
-use mathlib.Core.List.{List, []}
+use mathlib.Core.List.{List, [], _∷_, _++_}
 use mathlib.Core.Path.{_≡_}
 use Rattle.denial.specs.declared.Denial.{Denial}
 use Rattle.sheet.specs.Marks.{Reads}
-use Rattle.sheet.specs.Overlays.{over, Puts}
+use Rattle.sheet.specs.Overlays.{over, record-of, Absent, Held-at}
 use Rattle.sheet.specs.declared.holds.Held.{Held}
 use Rattle.sheet.specs.declared.records.Record.{Record}
 use Rattle.std.specs.declared.option.Option.{Option}
@@ -22,8 +22,13 @@ overlaid below-marks h = over (holding h) (below-marks (h .below))
 
 module _ {S : Type 0} (below-marks : S → List ℕ) where
   -- what a granted write leaves of a held sheet
-  abbrev pub Held-puts : Held S → (block mark : ℕ) → Held S → Type 0
-  Held-puts before block mark after = Puts (holding before) (below-marks (before .below)) block mark (holding after) (below-marks (after .below))
+  pub data Held-puts (before : Held S) (block mark : ℕ) (after : Held S) : Type 0 where
+    -- the mark that is held for the block is replaced
+    replaced : (i : ℕ) → Held-at block (holding before) i → holding after ≡ set (holding before) i (record-of block mark) → after .below ≡ before .below → Held-puts before block mark after
+    -- no mark is held for it, and fewer than 32 are held: one more is
+    added : Absent block (holding before) → length (holding before) < 32 → holding after ≡ holding before ++ (record-of block mark ∷ []) → after .below ≡ before .below → Held-puts before block mark after
+    -- else it goes below
+    passed : Absent block (holding before) → 32 ≤ length (holding before) → holding after ≡ holding before → below-marks (after .below) ≡ set (below-marks (before .below)) block mark → Held-puts before block mark after
 
   -- the last held mark is taken away, to be put below
   abbrev pub Pops : Held S → Held S → Option Record → Type 0

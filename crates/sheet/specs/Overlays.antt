@@ -1,7 +1,7 @@
 -- Marks that are held over a list.
 use Prim.Native.Nat.{ℕ, _<_, _≤_}
 use lib.ListN.{length, getD, set, length-set}
-use mathlib.Core.List.{List, [], _∷_, _++_}
+use mathlib.Core.List.{List, [], _∷_}
 use mathlib.Core.Path.{_≡_, refl, _∙_}
 use native.Mathlib.Omega.{arith}
 use Rattle.sheet.specs.declared.records.Record.{Record}
@@ -26,15 +26,6 @@ pub record Held-at (block : ℕ) (held : List Record) (i : ℕ) : Type 0 where
   pub inside : i < length held
   pub here : at held i .block ≡ block
   pub before : (k : ℕ) → k < i → at held k .block ≡ block → ⊥
-
--- what a mark for a block leaves of the held marks and of the marks below
-pub data Puts (held : List Record) (below : List ℕ) (block mark : ℕ) (held′ : List Record) (below′ : List ℕ) : Type 0 where
-  -- the mark that is held for the block is replaced
-  replaced : (i : ℕ) → Held-at block held i → held′ ≡ set held i (record-of block mark) → below′ ≡ below → Puts held below block mark held′ below′
-  -- no mark is held for it, and fewer than 32 are held: one more is
-  added : Absent block held → length held < 32 → held′ ≡ held ++ (record-of block mark ∷ []) → below′ ≡ below → Puts held below block mark held′ below′
-  -- else it goes below
-  passed : Absent block held → 32 ≤ length held → held′ ≡ held → below′ ≡ set below block mark → Puts held below block mark held′ below′
 
 pub over-length : (held : List Record) (marks : List ℕ) → length (over held marks) ≡ length marks
 over-length [] marks = refl

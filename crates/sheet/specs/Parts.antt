@@ -1,12 +1,11 @@
 -- How a block of a joined sheet is found in one of its parts.
-use Prim.Native.Nat.{ℕ, _+_, _<_, _≤_, min}
+use Prim.Native.Nat.{ℕ, _+_, _<_, min}
 use lib.ListN.{length}
 use mathlib.Core.List.{List}
 use mathlib.Core.Path.{_≡_}
-use Rattle.denial.specs.Refusals.{refusal, refused}
 use Rattle.denial.specs.declared.Denial.{Denial}
 use Rattle.sheet.specs.Joins.{joined-marks, Joined-puts}
-use Rattle.sheet.specs.Marks.{Reads, Writes}
+use Rattle.sheet.specs.Marks.{Outside, Reads, Writes}
 use Rattle.sheet.specs.declared.joins.Joined.{Joined}
 use Rattle.sheet.specs.declared.joins.Part.{Part}
 use Rattle.sheet.specs.declared.joins.Part.the-variants.{First, Second}
@@ -18,7 +17,7 @@ use Rattle.std.specs.declared.result.Result.the-variants.{Ok, Err}
 abbrev pub Locates : (n m block : ℕ) → Result Part Denial → Type 0
 Locates n m block (Ok (First at)) = (block < 65536) × (at < n) × (at ≡ block)
 Locates n m block (Ok (Second at)) = (block < 65536) × (at < m) × (n + at ≡ block)
-Locates n m block (Err denial) = (min (n + m) 65536 ≤ block) × (refusal denial ≡ refused 7 3 block)
+Locates n m block (Err denial) = Outside (min (n + m) 65536) block denial
 
 module _ {L R : Type 0} (first-marks : L → List ℕ) (second-marks : R → List ℕ) where
   -- a block of a part stands for a block of the whole sheet around it: a read or a write there answers and does what one of the whole would
@@ -31,4 +30,4 @@ module _ {L R : Type 0} (first-marks : L → List ℕ) (second-marks : R → Lis
   abbrev pub Finds : Joined L R → ℕ → Result Part Denial → Type 0
   Finds s block (Ok (First at)) = Stands-for first-marks (λ first. record { first = first; second = s .second }) (s .first) at block
   Finds s block (Ok (Second at)) = Stands-for second-marks (λ second. record { first = s .first; second = second }) (s .second) at block
-  Finds s block (Err denial) = (length (joined-marks first-marks second-marks s) ≤ block) × (refusal denial ≡ refused 7 3 block)
+  Finds s block (Err denial) = Outside (length (joined-marks first-marks second-marks s)) block denial

@@ -1,5 +1,5 @@
 // Worked reads and writes, at the ends of sheets and past them.
-ghost use Rattle.std.specs.Vec.{made};
+ghost use Rattle.std.specs.declared.result.Result.the-variants.{Err, Ok};
 ghost use lib.ListN.{set};
 ghost use mathlib.Core.Path.{_≡_};
 use crate::*;
@@ -46,7 +46,7 @@ fn cuts_a_long_strip() -> Result<(), Fail> {
 
 // What a caller knows of its numbers once the table over them is gone.
 fn put_mark(numbers: &mut [u32], block: usize, mark: u32) -> Result<(), Denial>
-    ensures { λ r. ⌜ made r (λ _. now (numbers .exit) ≡ set (now (numbers .entry)) block mark) ⌝ }
+    ensures { λ r. ⌜ elim r [ Ok _ ↦ now (numbers .exit) ≡ set (now (numbers .entry)) block mark | Err _ ↦ now (numbers .exit) ≡ now (numbers .entry) ] ⌝ }
 {
     let mut table = Table::new(numbers);
     table.write(block, mark)

@@ -21,7 +21,7 @@ returns-in-Err g c =
     let denied = c .in-Err .ensures tt in
     let line : answer-line block mark (text (refusal (c .in-Err .denial))) ≡ write-line (marks before) block mark =
     ap (answer-line block mark)
-    (ap text (denied .2) ∙ ap (λ (b : Bool). cond b (codes "ok") (text (refused 7 3 block))) (sym (le-ltb block (length (marks before)) (denied .0)))) in
+    (ap text (denied .0 .1) ∙ ap (λ (b : Bool). cond b (codes "ok") (text (refused 7 3 block))) (sym (le-ltb block (length (marks before)) (denied .0 .0)))) in
     record {
       line = subst (λ (bytes : List ℕ). made (c .format-in-Err .result) (λ made-line. string-bytes made-line ≡ bytes)) line (c .format-in-Err .ensures .made);
       list = written marks before (c .write .last .self) block mark (c .write .result) (c .write .ensures);

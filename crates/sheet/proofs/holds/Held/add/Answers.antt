@@ -7,7 +7,7 @@ use Rattle.sheet.proofs.Overlays.{one-more, over-below, over-last}
 use Rattle.sheet.proofs.holds.Held.add.Needs as need
 use Rattle.sheet.specs.Holds.{holding}
 use Rattle.sheet.specs.Overlays.{over, record-of}
-use Rattle.sheet.specs.Overlays.Puts.{added}
+use Rattle.sheet.specs.Holds.Held-puts.{added}
 use Rattle.sheet.specs.declared.records.Record.{Record}
 
 pub returns-in-Some : need.returns-in-Some
@@ -20,7 +20,7 @@ returns-in-Some g c =
     let more = one-more (h .records) (min (h .count) 32) i (min (i + 1) 32) (record-of block mark) (c .in-Some .ensures tt .1) (omega arith) (omega arith) (omega (arith, c .in-Some .ensures tt .0)) in
     record {
       wrote = (c .pre .inside, ap (λ (held : List Record). over held marks) more ∙ over-last (holding h) (record-of block mark) marks ∙ over-below block mark (holding h) marks (c .pre .absent));
-      put = added (c .pre .absent) (omega (arith, c .in-Some .ensures tt .0, c .in-Some .ensures tt .1)) more (refl {a = marks});
+      put = added (c .pre .absent) (omega (arith, c .in-Some .ensures tt .0, c .in-Some .ensures tt .1)) more (refl {a = h .below});
     }
 
 pub returns-in-None : need.returns-in-None

@@ -1,4 +1,6 @@
 // Measures the library on numbers from a fixed sequence. What it finds goes to standard output, and the times to standard error.
+#![tactic(auto)]
+
 ghost use Rattle.std.specs.Prelude.{◌≡◌, ◌+◌, ◌*◌, ◌%◌, ◌^◌};
 
 use field::{Field, Prime};

@@ -1,4 +1,6 @@
 // Denials: what a call answers where it grants nothing.
+#![tactic(auto)]
+
 ghost use Rattle.denial.specs.Refusals.{refusal, text};
 ghost use Rattle.std.specs.Prelude.{◌≡◌, Some};
 

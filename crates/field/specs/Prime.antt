@@ -24,7 +24,17 @@ remainders q base kind width = record {
 
 -- the field of 65,537 codes
 abbrev pub prime : Arithmetic
-prime = remainders 65537 3 1 3
+prime = record {
+  size = 65537;
+  plus = sum_mod 65537;
+  times = product_mod 65537;
+  negate = λ a. (65537 - a % 65537) % 65537;
+  invert = λ a. raised (product_mod 65537) a 65535;
+  base = 3;
+  order = 65536;
+  kind = 1;
+  width = 3;
+}
 
 -- the repeated squares of the base: 3, 3^2, 3^4 and on to 3^32768
 abbrev pub squares : List ℕ

@@ -2,6 +2,8 @@
 //
 // A field of q elements has the numbers 0 to q - 1 as its codes. Each call takes any numbers and gives a code: a number of q or more counts
 // as its remainder by q.
+#![tactic(auto)]
+
 ghost use Rattle.std.specs.Prelude.{◌≡◌, ◌-◌, ◌<◌, Decides};
 ghost use Rattle.field.specs.Field.{Arithmetic, Laws, power};
 

@@ -1,4 +1,6 @@
 // Sums of sheets, and the shortest generators of stretches of such sums.
+#![tactic(auto)]
+
 mod berlekamp_massey;
 mod generators;
 mod polynomials;

@@ -1,4 +1,6 @@
 // Writes marks into a pile of sheets, more than it can hold, flushes them, and reads all of them back.
+#![tactic(auto)]
+
 ghost use Rattle.pile.specs.Reports.{line_of_read, lines_of_reads, report, stepped, line_of_write, lines_of_writes};
 ghost use Rattle.sheet.specs.Joins.{joined};
 ghost use Rattle.sheet.specs.Marks.{cut};

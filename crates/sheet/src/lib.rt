@@ -1,4 +1,6 @@
 // Sheets: lists of marks, one 32-bit number for each block of a drawing set.
+#![tactic(auto)]
+
 ghost use Rattle.std.specs.Prelude.{◌≡◌, ℕ, ◌≤◌, min, List, length};
 ghost use Rattle.sheet.specs.Marks.{Checks, Reads, Writes};
 

@@ -1,4 +1,6 @@
 // Prints the number of blocks of standard input, taken as a strip, and its sums at the first places in each field.
+#![tactic(auto)]
+
 ghost use Rattle.std.specs.Prelude.{◌≡◌, ◌++◌, IfOk, string_bytes, OnOk};
 ghost use Rattle.sums.specs.Reports.{report, line_of_sum, lines_of_sums};
 

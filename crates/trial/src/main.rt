@@ -1,5 +1,7 @@
 // Compares the generators that the library finds with those of a trial of all lists of codes, for every short stretch over a field of five
 // codes, and prints how many stretches were compared.
+#![tactic(auto)]
+
 ghost use Rattle.std.specs.Prelude.{◌≡◌, ◌+◌, ◌^◌, ◌≤◌, length};
 
 use crate::exhaustion::{Generators, LONGEST, digits, list_count, try_all};

@@ -12,8 +12,8 @@ unfolding lines_of_reads
 loop-block-preserved g c =
     let marks = g.S.Readable.marks c.args.sheet.now in
     let block = c.loop-block.block in
-    let line : string_bytes c.in-ok-line.line ≡ line_of_read block (get_or marks block 0) =
-    c.in-ok-line.ensures ∙ ap (line_of_read block) c.in-Ok.ensures.1 in
+    let line : string_bytes c.in_ok-line.line ≡ line_of_read block (get_or marks block 0) =
+    c.in_ok-line.ensures ∙ ap (line_of_read block) c.in-Ok.ensures.1 in
     rw add-one
     (line_added (string_bytes c.args.text.now) (lines_of_reads marks block) (line_of_read block (get_or marks block 0))
-    c.in-ok-push-str.ensures.bytes c.loop-block.invariant (c.as-str.ensures.value ∙ line))
+    c.in_ok-push_str.ensures.bytes c.loop-block.invariant (c.as_str.ensures.value ∙ line))

@@ -13,10 +13,10 @@ loop-step-preserved g c =
     let marks = g.S.Readable.marks c.args.sheet.now in
     let step = c.loop-step.step in
     let now = stepped marks step in
-    let line : string_bytes c.in-ok-line.line ≡ line_of_write now (block_of step) (mark_of step) =
-    c.in-ok-line.ensures.line ∙ ap (λ (xs : List ℕ). line_of_write xs (block_of step) (mark_of step)) c.loop-step.invariant.1 in
+    let line : string_bytes c.in_ok-line.line ≡ line_of_write now (block_of step) (mark_of step) =
+    c.in_ok-line.ensures.line ∙ ap (λ (xs : List ℕ). line_of_write xs (block_of step) (mark_of step)) c.loop-step.invariant.1 in
     rw add-one (
       line_added (string_bytes c.args.text.now) (lines_of_writes marks step) (line_of_write now (block_of step) (mark_of step))
-          c.in-ok-push-str.ensures.bytes c.loop-step.invariant.0 (c.as-str.ensures.value ∙ line),
-      c.in-ok-line.ensures.list ∙ ap (λ (xs : List ℕ). set xs (block_of step) (mark_of step)) c.loop-step.invariant.1,
+          c.in_ok-push_str.ensures.bytes c.loop-step.invariant.0 (c.as_str.ensures.value ∙ line),
+      c.in_ok-line.ensures.list ∙ ap (λ (xs : List ℕ). set xs (block_of step) (mark_of step)) c.loop-step.invariant.1,
     )

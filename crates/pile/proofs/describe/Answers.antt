@@ -18,7 +18,7 @@ module _ {marks made wrote flushed : List ℕ} {blocks writes flush reads : List
 pub returns : goal.returns
 returns c =
     reported (c.new-pile.ensures.list ∙ c.new-3.ensures.list ∙ ap₂ joined (c.new-inner.ensures.list ∙ c.new.ensures.list) c.new-2.ensures.list)
-    c.in-ok-add-writes.ensures.1 c.flush.ensures.list
-    (simp c.len-blocks.ensures at c.in-ok-text.ensures.ok)
-    c.in-ok-add-writes.ensures.0 c.in-ok-push-str.ensures.bytes
-    c.in-ok-add-reads.ensures
+    c.in_ok-add_writes.ensures.1 c.flush.ensures.list
+    (simp c.len-blocks.ensures at c.in_ok-text.ensures.ok)
+    c.in_ok-add_writes.ensures.0 c.in_ok-push_str.ensures.bytes
+    c.in_ok-add_reads.ensures

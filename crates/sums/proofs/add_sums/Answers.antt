@@ -13,9 +13,9 @@ loop-place-preserved g c =
     let A = g.F.Field.arithmetic in
     let marks = g.S.Readable.marks c.args.sheet.now in
     let place = c.loop-place.place in
-    let line : string_bytes c.in-ok-line.line ≡ line_of_sum A.kind place (sum_at_place A marks place) =
-    c.in-ok-line.ensures ∙ ap₂ (λ kind sum. line_of_sum kind place sum) c.kind.ensures c.in-Ok.ensures.1 in
-    rw add-one (c.in-ok-push-str.ensures.bytes ∙ ap₂ ◌++◌ c.loop-place.invariant (c.as-str.ensures.value ∙ line)
+    let line : string_bytes c.in_ok-line.line ≡ line_of_sum A.kind place (sum_at_place A marks place) =
+    c.in_ok-line.ensures ∙ ap₂ (λ kind sum. line_of_sum kind place sum) c.kind.ensures c.in-Ok.ensures.1 in
+    rw add-one (c.in_ok-push_str.ensures.bytes ∙ ap₂ ◌++◌ c.loop-place.invariant (c.as_str.ensures.value ∙ line)
     ∙ append_assoc (string_bytes c.args.text.now) (lines_of_sums A marks place) (line_of_sum A.kind place (sum_at_place A marks place)))
 
 pub returns : goal.returns

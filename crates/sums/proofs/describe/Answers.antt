@@ -10,9 +10,9 @@ pub returns : goal.returns
 returns c =
     let marks = cut c.args.input.now in
     let strip = c.new-strip.ensures in
-    let blocks : string_bytes c.in-ok-text.text ≡ blocks_line marks =
-    simp c.len-blocks.ensures at c.in-ok-text.ensures.ok ∙ ap (λ input. blocks_line (cut input)) strip in
+    let blocks : string_bytes c.in_ok-text.text ≡ blocks_line marks =
+    simp c.len-blocks.ensures at c.in_ok-text.ensures.ok ∙ ap (λ input. blocks_line (cut input)) strip in
     let lines = λ (A : Arithmetic). ap (λ input. lines_of_sums A (cut input) 16) strip in
-    c.in-ok-add-sums-2.ensures
-    ∙ ap₂ ◌++◌ (c.in-ok-add-sums.ensures ∙ ap₂ ◌++◌ blocks (lines prime)) (lines binary)
+    c.in_ok-add_sums-2.ensures
+    ∙ ap₂ ◌++◌ (c.in_ok-add_sums.ensures ∙ ap₂ ◌++◌ blocks (lines prime)) (lines binary)
     ∙ append_assoc (blocks_line marks) (lines_of_sums prime marks 16) (lines_of_sums binary marks 16)

@@ -19,6 +19,6 @@ returns g c =
     let a = c.args.a in
     let other = rw c.size-size.ensures at c.if-a-size-eq0.false in
     let some : 0 < a % A.size = omega arith in
-    let exponent = c.inverse-exponent.ensures ∙ ap (λ n. n - 2) c.size-size.ensures in
+    let exponent = c.inverse_exponent.ensures ∙ ap (λ n. n - 2) c.size-size.ensures in
     c.pow.ensures ∙ ap (power A a) exponent ∙ power_remainder (products L) a (A.size - 2)
     ∙ sym (L.invert_remainder a ∙ inverse_power L (a % A.size) some (remainder_code L a))

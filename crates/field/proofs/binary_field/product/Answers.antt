@@ -13,13 +13,13 @@ loop-i-init c =
           ∙ interleaved_is w (w - 1) m (omega arith) c.requires.1.1.0 c.args.a c.args.b c.requires.1.1.1,
     )
 
-pub overflow-mul-sum : goal.overflow-mul-sum
-overflow-mul-sum c =
+pub overflow_mul-sum : goal.overflow_mul-sum
+overflow_mul-sum c =
     let below : c.loop-i.shifted < 2 ^ 32 = omega (arith, pow_mono {i = c.args.bits} {j = 32} (omega arith)) in
     record { fits = bit_times_lt (2 ^ 32) c.loop-i.shifted c.loop-i.left below }
 
-pub overflow-mul-shifted-in-loop-i : goal.overflow-mul-shifted-in-loop-i
-overflow-mul-shifted-in-loop-i c =
+pub overflow_mul-shifted-in-loop-i : goal.overflow_mul-shifted-in-loop-i
+overflow_mul-shifted-in-loop-i c =
     record { fits = bit_times_lt (2 ^ 32) c.args.modulus (c.loop-i.shifted / 2 ^ (c.args.bits - 1)) c.ranges.modulus.fits }
 
 pub loop-i-preserved : goal.loop-i-preserved
@@ -29,8 +29,8 @@ loop-i-preserved c =
     let k = w - 1 in
     let m = c.args.modulus in
     let l = c.loop-i in
-    let n = w - (l.-i + 1) in
-    let more : w - l.-i ≡ suc n = omega arith in (
+    let n = w - (l._i + 1) in
+    let more : w - l._i ≡ suc n = omega arith in (
       stepped_code w k m (omega arith) c.requires.1.1.0 l.shifted l.invariant.0,
       xor_assoc l.sum (l.left % 2 * l.shifted) (interleaved k m n (stepped k m l.shifted) (l.left / 2))
           ∙ ap (λ d. bit_xor l.sum (interleaved k m d l.shifted l.left)) (sym more) ∙ l.invariant.1,
@@ -41,5 +41,5 @@ unfolding interleaved
 returns c =
     let w = c.args.bits in
     let l = c.loop-i in
-    let none : w - l.-i ≡ 0 = omega arith in
+    let none : w - l._i ≡ 0 = omega arith in
     sym (xor_zero_r l.sum) ∙ ap (λ d. bit_xor l.sum (interleaved (w - 1) c.args.modulus d l.shifted l.left)) (sym none) ∙ l.invariant.1

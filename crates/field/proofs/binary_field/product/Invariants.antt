@@ -6,5 +6,5 @@ use Rattle.field.proofs.binary_field.product.Given as goal
 
 abbrev pub invariant-loop-i : goal.invariant-loop-i
 invariant-loop-i l =
-    let left = interleaved (l.bits - 1) l.modulus (l.bits - l.-i) l.shifted l.left in
+    let left = interleaved (l.bits - 1) l.modulus (l.bits - l._i) l.shifted l.left in
     (l.shifted < 2 ^ l.bits) × (bit_xor l.sum left ≡ reduced_product l.bits l.modulus l.a l.b)

@@ -48,7 +48,7 @@ loop-i-preserved c =
     let less = halves l.i l.left c.loop-i-test.true l.invariant.2 in
     elim c.if-left-eq1.branch [
       | then-left-eq1 w ↦
-          let entry : w.square-of-base.result ≡ x = w.square-of-base.ensures ∙ prime_squares l.i (omega arith) in
+          let entry : w.square_of_base.result ≡ x = w.square_of_base.ensures ∙ prime_squares l.i (omega arith) in
           let new : c.if-left-eq1.power ≡ times x l.power = w.power-is ∙ w.mul-power.ensures ∙ ap (λ y. times y l.power) entry in
           rw (three_square l.i, new) (
             turn_odd prime_products l.power x l.left w.if-left-eq1.true ∙ l.invariant.0,

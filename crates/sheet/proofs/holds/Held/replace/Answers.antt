@@ -6,8 +6,8 @@ use Rattle.sheet.specs.Overlays.{over, record_of}
 use Rattle.sheet.specs.Holds.HeldPuts.{replaced}
 use Rattle.sheet.specs.declared.records.Record.{Record}
 
-pub offset-bounds-self-index : goal.offset-bounds-self-index
-offset-bounds-self-index g c = let h = c.args.self.now in omega (arith, length-take (min h.count 32) h.records, c.requires.inside)
+pub offset_bounds-self-index : goal.offset_bounds-self-index
+offset_bounds-self-index g c = let h = c.args.self.now in omega (arith, length-take (min h.count 32) h.records, c.requires.inside)
 
 pub returns : goal.returns
 returns g c =

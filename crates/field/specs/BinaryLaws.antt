@@ -1,5 +1,5 @@
 -- The laws of the fields of polynomials with coefficients 0 and 1, from three tests that antt computes at a degree and a modulus.
-use Rattle.std.specs.Prelude.{◌≡◌, ℕ, zero, suc, ◌+◌, ◌-◌, ◌/◌, ◌%◌, ◌^◌, ◌<◌, ◌≤◌, Bool, T, bit_xor, nat_eq}
+use Rattle.std.specs.Prelude.{◌≡◌, ℕ, zero, suc, ◌-◌, ◌/◌, ◌%◌, ◌^◌, ◌<◌, ◌≤◌, Bool, T, bit_xor, nat_eq}
 use Rattle.std.proofs.Math.Path.{refl, sym, ap₂}
 use Rattle.std.proofs.Common.{◌∙◌, ap, mod-eq_of_lt, mod-lt, one-mul, pow-suc, zero-mul, arith, eqb→eq, pow_pos, pow_mono}
 use Rattle.std.proofs.Math.Nat.{mod-mod, zero-mod}

@@ -1,5 +1,5 @@
 -- What the program prints for the numbers of its two tables.
-use Rattle.std.specs.Prelude.{ℕ, zero, suc, ◌+◌, ◌*◌, ◌%◌, cond, List, [], ◌++◌, length, set, codes, decimal, nat_lt, slice_index, slice_set}
+use Rattle.std.specs.Prelude.{ℕ, zero, suc, ◌+◌, ◌*◌, ◌%◌, cond, List, [], ◌++◌, length, codes, decimal, nat_lt, slice_index, slice_set}
 use Rattle.denial.specs.Refusals.{refused, text}
 
 -- the block and the mark of a step: the blocks go round, and some are past the end

@@ -16,7 +16,8 @@ enum Part {
 
 // Where a block lies in two sheets end to end that have so many blocks.
 fn locate(block: usize, first: usize, second: usize) -> Result<Part, Denial>
-    requires { (first ≤ 65536) × (second ≤ 65536) }
+    requires first_fits { first ≤ 65536 }
+    requires second_fits { second ≤ 65536 }
     ensures { Locates first second block result }
 {
     check_block(block, block_count(first + second))?;

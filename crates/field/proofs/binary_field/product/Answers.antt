@@ -8,9 +8,9 @@ loop-i-init c =
     let w = c.args.bits in
     let m = c.args.modulus in
     let all : w - 0 ≡ w = omega arith in (
-      c.requires.1.1.1,
+      c.requires.code,
       ap (λ d. interleaved (w - 1) m d c.args.a c.args.b) all
-          ∙ interleaved_is w (w - 1) m (omega arith) c.requires.1.1.0 c.args.a c.args.b c.requires.1.1.1,
+          ∙ interleaved_is w (w - 1) m (omega arith) c.requires.degree c.args.a c.args.b c.requires.code,
     )
 
 pub overflow_mul-sum : goal.overflow_mul-sum
@@ -31,7 +31,7 @@ loop-i-preserved c =
     let l = c.loop-i in
     let n = w - (l._i + 1) in
     let more : w - l._i ≡ suc n = omega arith in (
-      stepped_code w k m (omega arith) c.requires.1.1.0 l.shifted l.invariant.0,
+      stepped_code w k m (omega arith) c.requires.degree l.shifted l.invariant.0,
       xor_assoc l.sum (l.left % 2 * l.shifted) (interleaved k m n (stepped k m l.shifted) (l.left / 2))
           ∙ ap (λ d. bit_xor l.sum (interleaved k m d l.shifted l.left)) (sym more) ∙ l.invariant.1,
     )

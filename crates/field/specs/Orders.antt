@@ -1,5 +1,5 @@
 -- The order of a base: how it is shown, and what follows where the powers are as many as the codes but 0.
-use Rattle.std.specs.Prelude.{◌≡◌, ℕ, zero, suc, ◌+◌, ◌-◌, ◌*◌, ◌/◌, ◌%◌, ◌^◌, ◌<◌, ◌≤◌, Bool, ◌&&◌, T, ◌≢◌, List, ◌==◌, nat_eq, nat_lt, slice_index, slice_index_or}
+use Rattle.std.specs.Prelude.{◌≡◌, ℕ, zero, suc, ◌+◌, ◌-◌, ◌*◌, ◌/◌, ◌%◌, ◌^◌, ◌<◌, ◌≤◌, Bool, ◌&&◌, T, ◌≢◌, List, ◌==◌, nat_lt, slice_index}
 use Rattle.std.proofs.Common.{⊎_elim, ◌∙◌, ap₂, not-suc-le-zero, zero-add, add-suc, suc-add, pow-suc, mul_assoc, eqb→eq, ltb→lt}
 use Rattle.std.proofs.Math.Path.{sym, ap, subst}
 use Rattle.std.proofs.Math.Nat.{mul_comm}
@@ -72,17 +72,17 @@ odd_multiple (suc n) d h k =
 
 -- each of the entries 1 to n of a table is the square of the one before
 abbrev pub squares_test : (ℕ → ℕ → ℕ) → List ℕ → ℕ → Bool
-squares_test times xs n = all (λ i. nat_eq (slice_index xs (suc i)) (times (slice_index xs i) (slice_index xs i))) n
+squares_test times xs n = all (λ i. slice_index xs (suc i) == times (slice_index xs i) (slice_index xs i)) n
 
-module _ {q : ℕ} {times : ℕ → ℕ → ℕ} (P : Products q times) (ω : ℕ) (code : ω < q) (xs : List ℕ) (start : slice_index_or xs 0 0 ≡ ω) (n : ℕ)
+module _ {q : ℕ} {times : ℕ → ℕ → ℕ} (P : Products q times) (ω : ℕ) (code : ω < q) (xs : List ℕ) (start : slice_index xs 0 ≡ ω) (n : ℕ)
     (passes : T (squares_test times xs n)) where
   pub square_power : (i : ℕ) → i ≤ n → slice_index xs i ≡ raised times ω (2 ^ i)
   square_power zero h = start ∙ sym (power_one P ω code)
   square_power (suc i) h =
-      let x = slice_index_or xs i 0 in
+      let x = slice_index xs i in
       let ih : x ≡ raised times ω (2 ^ i) = square_power i (omega arith) in
       let e : 2 ^ i + 2 ^ i ≡ 2 ^ suc i = omega (arith, pow-suc 2 i) in
-      let test = all_at (λ i. nat_eq (slice_index xs (suc i)) (times (slice_index xs i) (slice_index xs i))) n passes i (omega arith) in
+      let test = all_at (λ i. slice_index xs (suc i) == times (slice_index xs i) (slice_index xs i)) n passes i (omega arith) in
       eqb→eq (slice_index xs (suc i)) (times x x) test ∙ ap₂ times ih ih ∙ sym (power_add P ω (2 ^ i) (2 ^ i)) ∙ ap (raised times ω) e
 
   -- the last entry z is not 1, and its square is

@@ -22,7 +22,7 @@ remainders q base kind width = record {
   width = width;
 }
 
--- the field of 65,537 codes
+-- the field of 65,537 codes, which is `remainders 65537 3 1 3` written out
 abbrev pub prime : Arithmetic
 prime = record {
   size = 65537;

@@ -7,10 +7,10 @@ use crate::Field;
 
 // The product of two polynomials of degree below `bits`, reduced by a modulus of that degree.
 fn product(bits: u32, modulus: u32, a: u32, b: u32) -> u32
-    requires some { 0 < bits }
+    requires positive { 0 < bits }
     requires fits { bits < 32 }
     requires degree { modulus / 2 ^ bits ≡ 1 }
-    requires code { a < 2 ^ bits }
+    requires reduced { a < 2 ^ bits }
     ensures { result ≡ reduced_product bits modulus a b }
 {
     let mut sum = 0;

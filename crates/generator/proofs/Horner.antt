@@ -15,9 +15,9 @@ horner A x (a ∷ coefficients) = A.plus a (A.times x (horner A x coefficients))
 pub horner_more : (A : Arithmetic) (x : ℕ) (coefficients : List ℕ) (j k a value : ℕ) → j < length coefficients → k ≡ j + 1 → a ≡ get_or coefficients j 0
     → value ≡ horner A x (drop k coefficients) → A.plus a (A.times x value) ≡ horner A x (drop j coefficients)
 unfolding horner
-horner_more A x coefficients j k a value h k-is a-is value-is =
-    let rest : value ≡ horner A x (drop (j + 1) coefficients) = value-is ∙ ap (λ (n : ℕ). horner A x (drop n coefficients)) k-is in
-    ap₂ A.plus a-is (ap (A.times x) rest) ∙ ap (horner A x) (sym (drop_more coefficients j 0 h))
+horner_more A x coefficients j k a value h k_is a_is value_is =
+    let rest : value ≡ horner A x (drop (j + 1) coefficients) = value_is ∙ ap (λ (n : ℕ). horner A x (drop n coefficients)) k_is in
+    ap₂ A.plus a_is (ap (A.times x) rest) ∙ ap (horner A x) (sym (drop_more coefficients j 0 h))
 
 module _ {A : Arithmetic} (L : Laws A) where
   horner_code : (x : ℕ) (coefficients : List ℕ) → horner A x coefficients < A.size

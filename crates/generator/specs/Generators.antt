@@ -1,5 +1,5 @@
 -- Generators of a stretch of codes: linear recurrences that its numbers follow.
-use Rattle.std.specs.Prelude.{◌≡◌, ℕ, suc, ◌-◌, ◌<◌, ◌≤◌, List, [], ◌∷◌, length, drop, slice_index_or}
+use Rattle.std.specs.Prelude.{◌≡◌, ℕ, suc, ◌-◌, ◌<◌, ◌≤◌, List, [], ◌∷◌, length, drop, slice_index}
 use Rattle.field.specs.Codes.{Codes}
 use Rattle.field.specs.Field.{Arithmetic}
 
@@ -14,7 +14,7 @@ dot A (g ∷ gs) (x ∷ xs) = A.plus (A.times g x) (dot A gs xs)
 pub record Generates (A : Arithmetic) (L : ℕ) (g stretch : List ℕ) : Type 0 where
   pub size : length g ≡ suc L
   pub codes : Codes A g
-  pub monic : slice_index_or g L 0 ≡ 1
+  pub monic : slice_index g L ≡ 1
   pub zeros : (i : ℕ) → L ≤ i → i < length stretch → dot A g (drop (i - L) stretch) ≡ 0
 
 -- and no generator of the stretch is shorter

@@ -16,6 +16,6 @@ returns-in-Err g c =
     ap (answer_line block mark)
     (ap text denied.0.1 ∙ ap (λ (b : Bool). cond b (codes "ok") (text (refused 7 3 block))) (sym (le-ltb block (length (marks before)) denied.0.0))) in
     record {
-      line = subst (λ (bytes : List ℕ). IfOk c.format-in-Err.result (λ made-line. string_bytes made-line ≡ bytes)) line c.format-in-Err.ensures.ok;
+      line = subst (λ (bytes : List ℕ). IfOk c.format-in-Err.result (λ written. string_bytes written ≡ bytes)) line c.format-in-Err.ensures.ok;
       list = written marks before c.write.new.self block mark c.write.result c.write.ensures;
     }

@@ -8,9 +8,9 @@ loop-i-init c =
     let w = c.args.bits in
     let m = c.args.modulus in
     let all : w - 0 ≡ w = omega arith in (
-      c.requires.code,
+      c.requires.reduced,
       ap (λ d. interleaved (w - 1) m d c.args.a c.args.b) all
-          ∙ interleaved_is w (w - 1) m (omega arith) c.requires.degree c.args.a c.args.b c.requires.code,
+          ∙ interleaved_is w (w - 1) m (omega arith) c.requires.degree c.args.a c.args.b c.requires.reduced,
     )
 
 pub overflow_mul-sum : goal.overflow_mul-sum

@@ -1,7 +1,7 @@
 """Spells the repository's own definitions and lemmas as today's Rattle does: python3 tools/respell.py [FOLDER]
 
 A word is in snake case, and a fact, that is a name with a capital, in upper camel case: `first-no-code` becomes `first_no_code`, and
-`First-no` becomes `FirstNo`. It is run once, at the top of the repository, after /opt/rattle/port/port.py. Names that Rattle makes, as those
+`First-no` becomes `FirstNo`. It is run once, at the top of the repository, after the kit's port.py. Names that Rattle makes, as those
 of goals and invariants, keep their dashes, as do names of the library. It prints the names that would fall together and then writes nothing."""
 import re
 import subprocess

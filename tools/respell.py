@@ -56,7 +56,7 @@ def declared(text):
 def main():
     top = Path(sys.argv[1] if len(sys.argv) > 1 else ".")
     crates = [line.split(":")[0].split()[0] for line in (top / "crates.txt").read_text().split("\n") if ":" in line and not line.startswith("#")]
-    listed = subprocess.check_output(["git", "ls-files", "crates"], cwd=top, text=True).split("\n")
+    listed = subprocess.check_output(["git", "ls-files", "--cached", "--others", "--exclude-standard", "crates"], cwd=top, text=True).split("\n")
     paths = [top / name for name in listed if name.endswith((".antt", ".rt")) and (top / name).exists()]
     texts = {path: path.read_text() for path in paths}
     own = {path: {name for name in declared(text) if respelled(name) != name} for path, text in texts.items() if path.suffix == ".antt"}

@@ -95,6 +95,11 @@ mod tests {
             format!(in rt.alloc(); "{place}")?.as_str(),
             "denied: number 13, layer 2, place 544"
         );
+        Ok(())
+    }
+
+    #[test]
+    fn tells_denials_of_a_generator(rt: HostRuntime) -> Result<(), Fail> {
         let code = Denial::NoCode { index: 5 };
         assert_eq!(rt;
             format!(in rt.alloc(); "{code}")?.as_str(),

@@ -90,8 +90,6 @@ fn prime_values(rt: HostRuntime) {
             (131075, 27),
         ],
     );
-    assert_eq!(rt; Prime::is_code(65536), true);
-    assert_eq!(rt; Prime::is_code(65537), false);
 }
 
 #[test]
@@ -151,6 +149,12 @@ fn binary_values(rt: HostRuntime) {
             (1000, 235),
         ],
     );
+}
+
+#[test]
+fn codes_lie_below_the_size(rt: HostRuntime) {
+    assert_eq!(rt; Prime::is_code(65536), true);
+    assert_eq!(rt; Prime::is_code(65537), false);
     assert_eq!(rt; Binary::is_code(255), true);
     assert_eq!(rt; Binary::is_code(256), false);
 }

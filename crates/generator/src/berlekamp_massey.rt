@@ -38,9 +38,9 @@ impl State {
 
     // What the generator gives at the number at k, with those before it: 0 where it does not fail.
     fn discrepancy<F: Field>(&self, stretch: &[u32], k: usize) -> u32
-        requires reached { self.now.length ≤ k }
+        requires enough_before { self.now.length ≤ k }
         requires inside { k < length stretch.now }
-        requires below { k < 32 }
+        requires within_limit { k < 32 }
         ensures { result ≡ dot F.Field.arithmetic (take (self.now.length + 1) self.now.generator) (drop (k - self.now.length) stretch.now) }
     {
         dot_product::<F>(&self.generator[..=self.length], &stretch[k - self.length..])
@@ -48,8 +48,8 @@ impl State {
 
     // Takes in the number at k, which the generator fails at by a discrepancy.
     fn step<F: Field>(&mut self, k: usize, discrepancy: u32)
-        requires reached { self.old.length ≤ k }
-        requires below { k < 32 }
+        requires enough_before { self.old.length ≤ k }
+        requires within_limit { k < 32 }
         ensures { Steps F.Field.arithmetic k discrepancy self.old self.new }
     {
         // No generator that goes on past k is shorter than this, nor shorter than the one that fails.

@@ -1,9 +1,16 @@
 -- What each denial says: its number, its layer and its place.
 use Rattle.std.specs.Prelude.{ℕ, List, ◌++◌, codes, decimal}
 use Rattle.denial.specs.declared.Denial.{Denial}
+use Rattle.denial.specs.declared.Layer.{Layer}
+use Rattle.denial.specs.declared.Layer.TheVariants.{Message, Share, Sheet}
 use Rattle.denial.specs.declared.Denial.TheVariants.{BlockOutside, PlaceOutside, NoCode, NoRoom, StretchTooLong, GeneratorTooLong}
 
 -- the layer is 1 for a message, 2 for the share with its sums, and 3 for the sheet
+abbrev pub number_of_layer : Layer → ℕ
+number_of_layer Message = 1
+number_of_layer Share = 2
+number_of_layer Sheet = 3
+
 pub record Refusal : Type 0 where
   pub number : ℕ
   pub layer : ℕ

@@ -1,11 +1,31 @@
 // Denials: what a call answers where it grants nothing.
 #![tactic(auto)]
 
-ghost use Rattle.denial.specs.Refusals.{refusal, text};
+ghost use Rattle.denial.specs.Refusals.{number_of_layer, refusal, text};
 ghost use Rattle.std.specs.Prelude.{◌≡◌, Some};
 
 use std::error::Error;
 use std::fmt;
+
+// What asked the question: the message, the share with its sums, or the sheet.
+#[derive(Clone, Copy, PartialEq, Eq, Debug)]
+pub enum Layer {
+    Message,
+    Share,
+    Sheet,
+}
+
+impl From<Layer> for u8 {
+    ghost from_gives = { λ layer number. number ≡ number_of_layer layer };
+
+    fn from(layer: Layer) -> u8 {
+        match layer {
+            Layer::Message => 1,
+            Layer::Share => 2,
+            Layer::Sheet => 3,
+        }
+    }
+}
 
 #[derive(Clone, Copy, PartialEq, Eq, Debug)]
 pub enum Denial {
@@ -24,7 +44,7 @@ pub enum Denial {
 }
 
 impl Denial {
-    // The number of the question that was answered with no.
+    // The number of the question that was answered with no. The enum is the denial; this is what messages and people call it by.
     pub fn number(&self) -> u8
         ensures { result ≡ (refusal self.now).number }
     {
@@ -38,17 +58,17 @@ impl Denial {
         }
     }
 
-    // The layer that asked: 1 is the message, 2 the share and its sums, 3 the sheet.
-    pub fn layer(&self) -> u8
-        ensures { result ≡ (refusal self.now).layer }
+    // The layer that asked.
+    pub fn layer(&self) -> Layer
+        ensures { number_of_layer result ≡ (refusal self.now).layer }
     {
         match self {
-            Denial::BlockOutside { .. } => 3,
+            Denial::BlockOutside { .. } => Layer::Sheet,
             Denial::PlaceOutside { .. }
             | Denial::NoCode { .. }
             | Denial::NoRoom
             | Denial::StretchTooLong
-            | Denial::GeneratorTooLong => 2,
+            | Denial::GeneratorTooLong => Layer::Share,
         }
     }
 
@@ -70,7 +90,7 @@ impl fmt::Display for Denial {
 
     fn fmt<W: fmt::Write>(&self, f: &mut fmt::Formatter<W>) -> fmt::Result {
         let number = self.number();
-        let layer = self.layer();
+        let layer = u8::from(self.layer());
         let place = self.place();
         write!(f, "denied: number {number}, layer {layer}, place {place}")
     }
@@ -96,6 +116,13 @@ mod tests {
             "denied: number 13, layer 2, place 544"
         );
         Ok(())
+    }
+
+    #[test]
+    fn numbers_the_layers(rt: HostRuntime) {
+        assert_eq!(rt; u8::from(Layer::Message), 1);
+        assert_eq!(rt; u8::from(Denial::NoRoom.layer()), 2);
+        assert_eq!(rt; u8::from(Layer::Sheet), 3);
     }
 
     #[test]

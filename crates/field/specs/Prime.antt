@@ -1,6 +1,6 @@
 -- Fields of remainders by a prime.
-use Rattle.std.specs.Prelude.{ℕ, ◌+◌, ◌-◌, ◌*◌, ◌%◌, List, [], ◌∷◌}
-use Rattle.field.specs.Field.{Arithmetic, raised}
+use Rattle.std.specs.Prelude.{◌≡◌, ℕ, ◌+◌, ◌-◌, ◌*◌, ◌%◌, ◌^◌, ◌<◌, List, [], ◌∷◌, length, slice_index}
+use Rattle.field.specs.Field.{Arithmetic, Laws, raised}
 
 abbrev pub sum_mod : ℕ → ℕ → ℕ → ℕ
 sum_mod q a b = (a + b) % q
@@ -22,21 +22,18 @@ remainders q base kind width = record {
   width = width;
 }
 
--- the field of 65,537 codes, which is `remainders 65537 3 1 3` written out
+-- the field of 65,537 codes
 abbrev pub prime : Arithmetic
-prime = record {
-  size = 65537;
-  plus = sum_mod 65537;
-  times = product_mod 65537;
-  negate = λ a. (65537 - a % 65537) % 65537;
-  invert = λ a. raised (product_mod 65537) a 65535;
-  base = 3;
-  order = 65536;
-  kind = 1;
-  width = 3;
-}
+prime = remainders 65537 3 1 3
 
 -- the repeated squares of the base: 3, 3^2, 3^4 and on to 3^32768
 abbrev pub squares : List ℕ
 squares =
     3 ∷ 9 ∷ 81 ∷ 6561 ∷ 54449 ∷ 61869 ∷ 19139 ∷ 15028 ∷ 282 ∷ 13987 ∷ 8224 ∷ 65529 ∷ 64 ∷ 4096 ∷ 65281 ∷ 65536 ∷ []
+
+-- what the numbers of such a field show, where q - 1 is a power of two: the squares are the base, its square, the square of that and on, and 2
+-- to their number is q - 1
+pub record RemainderField (q base kind width : ℕ) (squares : List ℕ) : Type 0 where
+  pub laws : Laws (remainders q base kind width)
+  pub repeated : (i : ℕ) → i < length squares → slice_index squares i ≡ raised (product_mod q) base (2 ^ i)
+  pub halves : q ≡ 2 ^ length squares + 1

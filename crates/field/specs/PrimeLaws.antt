@@ -3,7 +3,7 @@ use Rattle.std.specs.Prelude.{◌≡◌, ℕ, ◌+◌, ◌-◌, ◌%◌, ◌^◌
 use Rattle.std.proofs.Common.{sym, ◌∙◌, ap, mod-lt, mod-eq_of_lt, add_comm, add-zero, arith}
 use Rattle.std.proofs.Math.Nat.{mod-add-mod, add-mod-mod, mod-mod}
 use Rattle.field.specs.Field.{Laws, raised}
-use Rattle.field.specs.Prime.{prime, sum_mod, product_mod, remainders, squares}
+use Rattle.field.specs.Prime.{prime, sum_mod, product_mod, remainders, squares, RemainderField}
 use Rattle.field.specs.Cyclic.{Sums, cyclic_laws}
 use Rattle.field.specs.Orders.{Order, squared, square_power}
 use Rattle.field.specs.Powers.{Products}
@@ -40,3 +40,6 @@ prime_order = squared prime_products 3 (omega arith) squares refl 15 tt 65536 re
 
 pub prime_laws : Laws prime
 prime_laws = remainder_laws 65537 3 1 3 (omega arith) (omega arith) prime_order (omega arith, omega arith) (omega arith, omega arith) (omega arith)
+
+pub prime_field : RemainderField 65537 3 1 3 squares
+prime_field = record { laws = prime_laws; repeated = λ i h. prime_squares i (omega arith); halves = refl }

@@ -1,29 +1,18 @@
 -- The laws of the remainders by q.
-use Rattle.std.specs.Prelude.{◌≡◌, ℕ, ◌+◌, ◌-◌, ◌*◌, ◌/◌, ◌%◌, ◌<◌}
-use Rattle.std.proofs.Common.{sym, ◌∙◌, ap, mod-lt, mod-eq_of_lt, add_assoc, mul_comm, mul_assoc, mul-one, mul-zero, add-mul, mul-add, div-add-mod', arith}
-use Rattle.std.proofs.Math.Nat.{mod-add-mod, add-mod-mod, mod_self, zero-mod, mul-add-mod_self_right}
+use Rattle.std.specs.Prelude.{◌≡◌, ℕ, ◌+◌, ◌-◌, ◌*◌, ◌%◌, ◌<◌}
+use Rattle.std.proofs.Common.{sym, ◌∙◌, ap, mod-lt, mod-eq_of_lt, add_assoc, mul_comm, mul_assoc, mul-one, mul-zero, mul-add, arith}
+use Rattle.std.proofs.Math.Nat.{mod-add-mod, add-mod-mod, mod_self, zero-mod}
+use Rattle.std.proofs.lemmas.Nat.{mul-mod, mul-mod_first, mul-mod_second}
 use Rattle.field.specs.Prime.{sum_mod, product_mod}
 use Rattle.field.specs.Powers.{Products}
-
-mod_mul_left : (q a b : ℕ) → a % q * b % q ≡ a * b % q
-mod_mul_left q a b =
-    sym (ap (λ (x : ℕ). x * b % q) (sym (div-add-mod' a q)) ∙ ap (λ (x : ℕ). x % q) (add-mul (a / q * q) (a % q) b)
-    ∙ ap (λ (x : ℕ). (x + a % q * b) % q) (mul_assoc (a / q) q b ∙ ap (λ (x : ℕ). a / q * x) (mul_comm q b) ∙ sym (mul_assoc (a / q) b q))
-    ∙ mul-add-mod_self_right (a / q * b) q (a % q * b))
-
-mod_mul_right : (q a b : ℕ) → a * (b % q) % q ≡ a * b % q
-mod_mul_right q a b = ap (λ (x : ℕ). x % q) (mul_comm a (b % q)) ∙ mod_mul_left q b a ∙ ap (λ (x : ℕ). x % q) (mul_comm b a)
-
-pub mod_mul : (q a b : ℕ) → a * b % q ≡ a % q * (b % q) % q
-mod_mul q a b = sym (mod_mul_left q a (b % q) ∙ mod_mul_right q a b)
 
 pub remainder_products : (q : ℕ) → 1 < q → Products q (product_mod q)
 remainder_products q some =
     record {
       one_code = some;
       code = λ a b. mod-lt (a * b) (omega arith);
-      remainder = mod_mul q;
-      assoc = λ a b c. mod_mul_left q (a * b) c ∙ ap (λ (x : ℕ). x % q) (mul_assoc a b c) ∙ sym (mod_mul_right q a (b * c));
+      remainder = λ a b. mul-mod a b q;
+      assoc = λ a b c. mul-mod_first (a * b) c q ∙ ap (λ (x : ℕ). x % q) (mul_assoc a b c) ∙ sym (mul-mod_second a (b * c) q);
       comm = λ a b. ap (λ (x : ℕ). x % q) (mul_comm a b);
       one = λ a h. ap (λ (x : ℕ). x % q) (mul-one a) ∙ mod-eq_of_lt h;
       zero = λ a. ap (λ (x : ℕ). x % q) (mul-zero a) ∙ zero-mod q;
@@ -31,7 +20,7 @@ remainder_products q some =
 
 pub remainder_distrib : (q a b c : ℕ) → product_mod q a (sum_mod q b c) ≡ sum_mod q (product_mod q a b) (product_mod q a c)
 remainder_distrib q a b c =
-    mod_mul_right q a (b + c) ∙ ap (λ (x : ℕ). x % q) (mul-add a b c)
+    mul-mod_second a (b + c) q ∙ ap (λ (x : ℕ). x % q) (mul-add a b c)
     ∙ sym (mod-add-mod (a * b) q (a * c % q) ∙ add-mod-mod (a * b) (a * c) q)
 
 pub remainder_assoc : (q a b c : ℕ) → sum_mod q (sum_mod q a b) c ≡ sum_mod q a (sum_mod q b c)

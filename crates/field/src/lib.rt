@@ -4,22 +4,25 @@
 // as its remainder by q.
 #![tactic(auto)]
 
-ghost use Rattle.std.specs.Prelude.{◌≡◌, ◌-◌, ◌<◌, Decides};
+ghost use Rattle.std.specs.Prelude.{◌≡◌, ◌-◌, ◌<◌, ◌↔◌, IsTrue};
 ghost use Rattle.field.specs.Field.{Arithmetic, Laws, power};
 
 mod binary_field;
 mod prime_field;
+mod remainders;
 #[cfg(test)]
 mod tests;
 
 pub use binary_field::Binary;
 pub use prime_field::Prime;
+pub use remainders::FermatPrime;
 
 // The exponent e for which a^e is the inverse of each code a but 0, in a field of `size` codes.
 fn inverse_exponent(size: u32) -> usize
     requires { 1 < size }
     ensures { result ≡ size - 2 }
 {
+    // There is no `From<u32>` for `usize`.
     size as usize - 2
 }
 
@@ -39,7 +42,7 @@ pub trait Field {
     fn order() -> usize
         ensures { result ≡ arithmetic.order };
 
-    // The number that names the field in messages.
+    // The number that names the field in messages. No enum lists them, since a program may bring a field of its own.
     fn kind() -> u8
         ensures { result ≡ arithmetic.kind };
 
@@ -49,7 +52,7 @@ pub trait Field {
 
     // Whether a number is a code.
     fn is_code(a: u32) -> bool
-        ensures { Decides result (a < arithmetic.size) }
+        ensures { IsTrue result ↔ (a < arithmetic.size) }
     {
         a < Self::size()
     }

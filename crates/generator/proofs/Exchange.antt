@@ -62,7 +62,7 @@ module _ (F : Field) where
   minus_zero [] [] e h = refl
   minus_zero [] (x ∷ H) e h = absurd (omega arith)
   minus_zero (g ∷ G) [] e h = absurd (omega arith)
-  minus_zero (g ∷ G) (x ∷ H) e h = ap₂ {C = List K} ◌∷◌ (sym (sub_eq_zero F x g h.0)) (minus_zero G H (omega arith) h.1)
+  minus_zero (g ∷ G) (x ∷ H) e h = ap₂ ◌∷◌ (sym (sub_eq_zero F x g h.0)) (minus_zero G H (omega arith) h.1)
 
   act_all_zero : (G : List K) (s : ℕ → K) (i : ℕ) → AllZero G → act F.ops 𝟘 G s i ≡ 𝟘
   act_all_zero [] s i h = simp (clauses, ring)

@@ -1,23 +1,26 @@
 -- Horner's rule gives the sums of a sheet.
-use Rattle.std.proofs.Common.{◌≡◌, ℕ, suc, ◌+◌, ◌*◌, ◌<◌, List, [], ◌∷◌, length, get_or, drop, sym, ap, ◌∙◌, ap₂, mul-zero, mul-suc}
+use Rattle.std.proofs.Common.{◌≡◌, ℕ, suc, ◌+◌, ◌*◌, ◌<◌, List, [], ◌∷◌, length, get_or, drop, sym, ap, ◌∙◌, ap₂, mul-zero, mul-suc, arith}
 use Rattle.field.proofs.Derived.{products, times_zero, zero_code}
 use Rattle.field.specs.Powers.{one_left, power_add}
 use Rattle.field.specs.Field.{Arithmetic, Laws, power, raised}
 use Rattle.generator.specs.Sums.{sum_at_place, total_from}
-use Rattle.std.proofs.lemmas.List.{drop_more}
+use Rattle.std.proofs.lemmas.List.{drop_all, drop_more}
 
 -- the value at x of the polynomial with these coefficients, the lowest first
 unfoldable pub horner : Arithmetic → ℕ → List ℕ → ℕ
 horner A x [] = 0
 horner A x (a ∷ coefficients) = A.plus a (A.times x (horner A x coefficients))
 
--- one coefficient more, the one before those from k on
-pub horner_more : (A : Arithmetic) (x : ℕ) (coefficients : List ℕ) (j k a value : ℕ) → j < length coefficients → k ≡ j + 1 → a ≡ get_or coefficients j 0
-    → value ≡ horner A x (drop k coefficients) → A.plus a (A.times x value) ≡ horner A x (drop j coefficients)
+-- behind the last coefficient
+pub horner_end : (A : Arithmetic) (x : ℕ) (coefficients : List ℕ) (n : ℕ) → n ≡ length coefficients → horner A x (drop n coefficients) ≡ 0
 unfolding horner
-horner_more A x coefficients j k a value h k_is a_is value_is =
-    let rest : value ≡ horner A x (drop (j + 1) coefficients) = value_is ∙ ap (λ (n : ℕ). horner A x (drop n coefficients)) k_is in
-    ap₂ A.plus a_is (ap (A.times x) rest) ∙ ap (horner A x) (sym (drop_more coefficients j 0 h))
+horner_end A x coefficients n e = ap (horner A x) (drop_all n coefficients (omega arith))
+
+-- one coefficient more, the one before those from k on
+pub horner_more : (A : Arithmetic) (x : ℕ) (coefficients : List ℕ) (j k : ℕ) → j < length coefficients → k ≡ j + 1
+    → horner A x (drop j coefficients) ≡ A.plus (get_or coefficients j 0) (A.times x (horner A x (drop k coefficients)))
+unfolding horner
+horner_more A x coefficients j k h e = rw e (ap (horner A x) (drop_more coefficients j 0 h))
 
 module _ {A : Arithmetic} (L : Laws A) where
   horner_code : (x : ℕ) (coefficients : List ℕ) → horner A x coefficients < A.size

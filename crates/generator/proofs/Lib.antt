@@ -1,5 +1,4 @@
 pub mod Horner
-pub mod Reading
 pub mod Products
 pub mod Actions
 pub mod Exchange

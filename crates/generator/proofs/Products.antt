@@ -1,24 +1,24 @@
--- The total of the products of two lists, from the last product down.
-use Rattle.std.proofs.Common.{◌≡◌, ℕ, ◌+◌, ◌<◌, min, List, [], ◌∷◌, length, get_or, drop, sym, refl, ap, ◌∙◌, ap₂, ⊎_elim, arith}
-use Rattle.field.specs.Field.{Arithmetic}
+-- The total of the products of two lists, added up from the first product on.
+use Rattle.std.proofs.Common.{◌≡◌, ℕ, ◌<◌, List, [], ◌∷◌, fold, zip, sym, ◌∙◌}
+use Rattle.field.proofs.Derived.{zero_code}
+use Rattle.field.specs.Field.{Arithmetic, Laws}
 use Rattle.generator.specs.Generators.{dot}
-use Rattle.std.proofs.lemmas.List.{drop_more, drop_all}
-use Rattle.std.proofs.lemmas.Bool.{cases_lt}
 
-dot_nil : (A : Arithmetic) (xs : List ℕ) → dot A xs [] ≡ 0
-unfolding dot
-dot_nil A [] = refl
-dot_nil A (x ∷ xs) = refl
+module _ {A : Arithmetic} (L : Laws A) where
+  dot_code : (xs ys : List ℕ) → dot A xs ys < A.size
+  unfolding dot
+  dot_code [] ys = zero_code L
+  dot_code (x ∷ xs) [] = zero_code L
+  dot_code (x ∷ xs) (y ∷ ys) = L.plus_code (A.times x y) (dot A xs ys)
 
--- there is no product behind the end of the shorter list
-pub dot_end : (A : Arithmetic) (xs ys : List ℕ) (n : ℕ) → n ≡ min (length xs) (length ys) → dot A (drop n xs) (drop n ys) ≡ 0
-unfolding dot
-dot_end A xs ys n e =
-    ⊎_elim (λ l. ap (λ (zs : List ℕ). dot A zs (drop n ys)) (drop_all n xs (omega arith)))
-    (λ g. ap (dot A (drop n xs)) (drop_all n ys (omega arith)) ∙ dot_nil A (drop n xs)) (cases_lt (length xs) (length ys))
+  -- a total so far, and the products after it
+  fold_from : (total : ℕ) (xs ys : List ℕ) → total < A.size → fold (λ t p. A.plus t (A.times p.0 p.1)) total (zip xs ys) ≡ A.plus total (dot A xs ys)
+  unfolding dot
+  fold_from total [] ys h = sym (L.plus_zero total h)
+  fold_from total (x ∷ xs) [] h = sym (L.plus_zero total h)
+  fold_from total (x ∷ xs) (y ∷ ys) h =
+      let p = A.times x y in
+      fold_from (A.plus total p) xs ys (L.plus_code total p) ∙ L.plus_assoc total p (dot A xs ys)
 
--- one product more, before those from i + 1 on
-pub dot_more : (A : Arithmetic) (xs ys : List ℕ) (i : ℕ) → i < length xs → i < length ys
-    → A.plus (A.times (get_or xs i 0) (get_or ys i 0)) (dot A (drop (i + 1) xs) (drop (i + 1) ys)) ≡ dot A (drop i xs) (drop i ys)
-unfolding dot
-dot_more A xs ys i h k = sym (ap₂ (dot A) (drop_more xs i 0 h) (drop_more ys i 0 k))
+  pub fold_products : (xs ys : List ℕ) → fold (λ t p. A.plus t (A.times p.0 p.1)) 0 (zip xs ys) ≡ dot A xs ys
+  fold_products xs ys = fold_from 0 xs ys (zero_code L) ∙ L.plus_comm 0 (dot A xs ys) ∙ L.plus_zero (dot A xs ys) (dot_code xs ys)

@@ -1,90 +1,103 @@
 // The algorithm of Berlekamp and Massey: it takes the numbers of a stretch in, one by one. Where the generator so far fails at a number, a
 // multiple of an earlier generator, which failed too, makes up for it.
-ghost use Rattle.std.specs.Prelude.{◌≡◌, ◌+◌, ◌-◌, ◌*◌, ◌<◌, ◌≤◌, ◌∷◌, length, take, drop, replicate};
-ghost use Rattle.generator.specs.Generators.{Only, Shortest, dot};
-ghost use Rattle.generator.specs.Steps.{Steps};
+ghost use Rattle.std.specs.Prelude.{◌≡◌, ◌+◌, ◌-◌, ◌*◌, ◌<◌, ◌≤◌, max, [], ◌∷◌, length, drop};
+ghost use Rattle.generator.specs.Finds.{Short, Long};
 
-use crate::polynomials::{COEFFICIENTS, Coefficients, combine, dot_product};
+use crate::polynomials::{Polynomial, combine, dot_product, one};
 use field::Field;
+use std::mem;
 
 // What is known after the first numbers of a stretch.
 #[derive(Drop)]
-pub(crate) struct State {
-    // A shortest generator of these numbers, and its length.
-    pub generator: Coefficients,
-    pub length: usize,
+struct State {
+    // A shortest generator of these numbers.
+    generator: Polynomial,
     // A generator of fewer of them, and the inverse of its discrepancy at the number that it failed at.
-    helper: Coefficients,
+    helper: Polynomial,
     inverse: u32,
+
+    ghost not_empty: { 0 < length generator.items },
 }
 
 impl State {
+    ghost use Rattle.generator.specs.Generators.{dot};
+    ghost use Rattle.generator.specs.Steps.{Steps, state_length};
+
     // Before the first number: the constant polynomial 1 generates no numbers.
     fn new() -> State
-        ensures generator { result.generator ≡ 1 ∷ replicate 32 0 }
-        ensures length { result.length ≡ 0 }
-        ensures helper { result.helper ≡ 1 ∷ replicate 32 0 }
+        ensures generator { result.generator.items ≡ 1 ∷ [] }
+        ensures helper { result.helper.items ≡ 1 ∷ [] }
         ensures inverse { result.inverse ≡ 1 }
     {
-        let mut one = [0; COEFFICIENTS];
-        one[0] = 1;
         State {
-            generator: one,
-            length: 0,
-            helper: one,
+            generator: one(),
+            helper: one(),
             inverse: 1,
         }
     }
 
+    // The length of the generator.
+    fn length(&self) -> usize
+        ensures { result ≡ state_length self.now }
+    {
+        self.generator.len() - 1
+    }
+
     // What the generator gives at the number at k, with those before it: 0 where it does not fail.
     fn discrepancy<F: Field>(&self, stretch: &[u32], k: usize) -> u32
-        requires enough_before { self.now.length ≤ k }
+        requires enough_before { state_length self.now ≤ k }
         requires inside { k < length stretch.now }
-        requires within_limit { k < 32 }
-        ensures { result ≡ dot F.Field.arithmetic (take (self.now.length + 1) self.now.generator) (drop (k - self.now.length) stretch.now) }
+        ensures { result ≡ dot F.Field.arithmetic self.now.generator.items (drop (k - state_length self.now) stretch.now) }
     {
-        dot_product::<F>(&self.generator[..=self.length], &stretch[k - self.length..])
+        dot_product::<F>(&self.generator, &stretch[k - self.length()..])
     }
 
     // Takes in the number at k, which the generator fails at by a discrepancy.
     fn step<F: Field>(&mut self, k: usize, discrepancy: u32)
-        requires enough_before { self.old.length ≤ k }
+        requires enough_before { state_length self.old ≤ k }
         requires within_limit { k < 32 }
         ensures { Steps F.Field.arithmetic k discrepancy self.old self.new }
     {
-        // No generator that goes on past k is shorter than this, nor shorter than the one that fails.
-        let needed = k + 1 - self.length;
-        let length = self.length.max(needed);
+        let length = self.length();
+        let next_length = next_length(length, k + 1);
         let factor = F::neg(F::mul(discrepancy, self.inverse));
         let next = combine::<F>(
             &self.generator,
-            length - self.length,
+            next_length - length,
             factor,
             &self.helper,
-            length - needed,
+            next_length - (k + 1 - length),
         );
-        if length > self.length {
-            self.helper = self.generator;
+        let failed = mem::replace(&mut self.generator, next);
+        if next_length > length {
+            self.helper = failed;
             self.inverse = F::inv(discrepancy);
         }
-        self.generator = next;
-        self.length = length;
     }
 }
 
+// The length of the next generator, where one of this length fails at the last of so many numbers: no generator of all of these is shorter
+// than their count less the length, nor than the one that fails.
+fn next_length(length: usize, count: usize) -> usize
+    ensures { result ≡ max length (count - length) }
+{
+    length.max(count.saturating_sub(length))
+}
+
 // A shortest generator of a stretch.
-pub(crate) fn berlekamp_massey<F: Field>(stretch: &[u32]) -> State
+pub(crate) fn berlekamp_massey<F: Field>(stretch: &[u32]) -> Polynomial
     requires { length stretch.now ≤ 32 }
-    ensures shortest { Shortest F.Field.arithmetic result.length (take (result.length + 1) result.generator) stretch.now }
-    ensures only { 2 * result.length ≤ length stretch.now → Only F.Field.arithmetic result.length (take (result.length + 1) result.generator) stretch.now }
-    ensures short { result.length ≤ length stretch.now }
+    ensures not_empty { 0 < length result.items }
+    ensures short { let L = length result.items - 1 in 2 * L ≤ length stretch.now → Short F.Field.arithmetic stretch.now L result.items }
+    ensures long { let L = length result.items - 1 in length stretch.now < 2 * L → Long F.Field.arithmetic stretch.now L result.items }
 {
     let mut state = State::new();
+    // A plain loop: what the generator gives at a number takes those before it too, so its place k is needed.
     for k in 0..stretch.len() {
         let discrepancy = state.discrepancy::<F>(stretch, k);
         if discrepancy != 0 {
             state.step::<F>(k, discrepancy);
         }
     }
-    state
+    state.generator
 }

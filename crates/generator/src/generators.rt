@@ -14,12 +14,10 @@ pub const MIN_MEMORY: usize = MAX_STRETCH / 2 + 1;
 fn check_codes<F: Field>(numbers: &[u32]) -> Result<(), Denial>
     ensures { Asks (codes_question F.Field.arithmetic numbers.now) result }
 {
-    for (index, number) in numbers.iter().enumerate() {
-        if !F::is_code(*number) {
-            return Err(Denial::NoCode { index });
-        }
+    match numbers.iter().position(|number| !F::is_code(*number)) {
+        Some(index) => Err(Denial::NoCode { index }),
+        None => Ok(()),
     }
-    Ok(())
 }
 
 // A generator of a stretch is a list of codes, the last of them 1, whose products with as many numbers in a row of the stretch add up to 0,
@@ -38,11 +36,11 @@ pub fn shortest_generator<F: Field>(stretch: &[u32], memory: &mut [u32]) -> Resu
     if memory.len() < MIN_MEMORY {
         return Err(Denial::NoRoom);
     }
-    let found = berlekamp_massey::<F>(stretch);
-    if 2 * found.length > stretch.len() {
+    let generator = berlekamp_massey::<F>(stretch);
+    let length = generator.len() - 1;
+    if 2 * length > stretch.len() {
         return Err(Denial::GeneratorTooLong);
     }
-    let count = found.length + 1;
-    memory[..count].copy_from_slice(&found.generator[..count]);
-    Ok(found.length)
+    memory[..generator.len()].copy_from_slice(&generator);
+    Ok(length)
 }

@@ -9,5 +9,5 @@ mod sums;
 mod tests;
 
 pub use generators::{MIN_MEMORY, shortest_generator};
-pub use polynomials::MAX_STRETCH;
+pub use polynomials::{MAX_STRETCH, dot_product};
 pub use sums::{MAX_PLACES, sum_at};

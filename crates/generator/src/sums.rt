@@ -1,6 +1,6 @@
 // Sums of sheets.
 ghost use Rattle.generator.specs.Sums.{Sums, sum_at_place};
-ghost use Rattle.std.specs.Prelude.{◌≡◌};
+ghost use Rattle.std.specs.Prelude.{◌≡◌, slice_index};
 
 use denial::Denial;
 use field::Field;
@@ -25,9 +25,16 @@ fn total<F: Field, S: Readable>(sheet: &S, place: usize) -> u32
 {
     let node = F::base_pow(place);
     let mut sum = 0;
+    // A plain loop: a sheet has no iterator, and the check proves no fold over numbers in reverse.
     for block in (0..sheet.len()).rev() {
-        let mark = sheet.read(block).unwrap_or(0);
-        sum = F::add(mark, F::mul(node, sum));
+        sum = F::add(mark_or_zero(sheet, block), F::mul(node, sum));
     }
     sum
+}
+
+// The mark of a block, and 0 where there is no such block.
+fn mark_or_zero<S: Readable>(sheet: &S, block: usize) -> u32
+    ensures { result ≡ slice_index (S.Readable.marks sheet.now) block }
+{
+    sheet.read(block).unwrap_or(0)
 }

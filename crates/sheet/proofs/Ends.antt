@@ -1,6 +1,6 @@
 -- Reads and writes of two lists end to end, cut after 65,536 marks.
 use Rattle.std.proofs.Common.{◌≡◌, ℕ, ◌+◌, ◌-◌, ◌<◌, ◌≤◌, min, List, ◌++◌, length, get_or, set, IfOk, Ok, Err, Result, sym, refl, ap, ◌∙◌, arith, length-append, get_or-take}
-use lib.Seq.{take-set-lt, set-append_left}
+use Rattle.std.proofs.Math.Seq.{take-set-lt}
 use Rattle.denial.specs.declared.Denial.{Denial}
 use Rattle.sheet.proofs.Cuts.{cut_length}
 use Rattle.sheet.specs.Joins.{joined, joined_marks, JoinedPuts}
@@ -10,7 +10,7 @@ use Rattle.sheet.specs.Parts.{Finds, Locates, StandsFor}
 use Rattle.sheet.specs.declared.joins.Joined.{Joined}
 use Rattle.sheet.specs.declared.joins.Part.{Part}
 use Rattle.sheet.specs.declared.joins.Part.TheVariants.{First, Second}
-use Rattle.std.proofs.lemmas.List.{get_or_append_left, get_or-append_right, set-append_right}
+use Rattle.std.proofs.lemmas.List.{get_or_append_left, get_or-append_right, set-append_left, set-append_right}
 
 pub joined_length : (xs ys : List ℕ) → min (length xs + length ys) 65536 ≡ length (joined xs ys)
 joined_length xs ys = omega (arith, cut_length (xs ++ ys), length-append xs ys)

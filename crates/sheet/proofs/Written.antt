@@ -1,6 +1,6 @@
 -- What a write leaves, granted or denied.
 use Rattle.std.proofs.Common.{◌≡◌, ℕ, List, set, Ok, Err, Result, sym, ap, ◌∙◌}
-use lib.Seq.{set_out}
+use Rattle.std.proofs.Math.Seq.{set_out}
 use Rattle.denial.specs.declared.Denial.{Denial}
 use Rattle.sheet.specs.Marks.{Writes}
 

@@ -1,11 +1,12 @@
 // A held sheet: a sheet that holds up to 32 marks back from the sheet below it.
-ghost use Rattle.std.specs.Prelude.{◌≡◌, ◌<◌, ◌≤◌, min, [], length, MatchOption, OnOk, slice_set};
-ghost use Rattle.sheet.specs.Holds.{HeldPuts, Pops, Shows, holding, overlaid};
+ghost use Rattle.std.specs.Prelude.{◌≡◌, ◌<◌, [], length, MatchOption, OnOk, slice_set};
+ghost use Rattle.sheet.specs.Holds.{HeldPuts, Shows, holding, overlaid};
 ghost use Rattle.sheet.specs.Marks.{Writes};
 ghost use Rattle.sheet.specs.Overlays.{Absent, HeldAt, over_short};
 
 use crate::records::Record;
 use crate::{Readable, Writable, check_block};
+use arrayvec::ArrayVec;
 use denial::Denial;
 
 // No held sheet holds more marks.
@@ -15,46 +16,24 @@ pub const MAX_HELD: usize = 32;
 #[derive(Drop)]
 pub struct Held<S> {
     below: S,
-    // The first records are in use, as many as `count` says.
-    records: [Record; MAX_HELD],
-    count: usize,
+    records: ArrayVec<Record, MAX_HELD>,
 }
 
 impl<S: Readable> Held<S> {
-    // The records that are in use.
-    fn held(&self) -> &[Record]
-        ensures list { result.now ≡ holding self.now }
-        ensures len { length result.now ≡ min self.now.count 32 }
-    {
-        &self.records[0..self.count.min(MAX_HELD)]
-    }
-
     // The index of the first mark that is held for a block.
     fn position(&self, block: usize) -> Option<usize>
         ensures { MatchOption result (Absent block (holding self.now)) (λ i. HeldAt block (holding self.now) i) }
     {
-        for (index, record) in self.held().iter().enumerate() {
-            if record.block == block {
-                return Some(index);
-            }
-        }
-        None
+        self.records.iter().position(|held| held.block == block)
     }
 
     // The mark that is held for a block.
+    #[tactic(auto, using(crate::specs::Overlays::over_length, crate::proofs::Overlays::over_held, crate::proofs::Overlays::shows_below))]
     fn held_mark(&self, block: usize) -> Option<u32>
         ensures { Shows (holding self.now) (S.Readable.marks self.now.below) block result }
     {
         let index = self.position(block)?;
-        Some(self.held()[index].mark)
-    }
-
-    // The index of the record that the next mark is held in, unless all are in use.
-    fn vacancy(&self) -> Option<usize>
-        ensures { MatchOption result (32 ≤ length (holding self.now)) (λ i. (i < 32) × (i ≡ length (holding self.now))) }
-    {
-        let count = self.held().len();
-        if count < MAX_HELD { Some(count) } else { None }
+        Some(self.records[index].mark)
     }
 }
 
@@ -66,62 +45,52 @@ impl<S: Writable> Held<S> {
     {
         Held {
             below,
-            records: [Record { block: 0, mark: 0 }; MAX_HELD],
-            count: 0,
+            records: ArrayVec::new(),
         }
     }
 
     // Writes all held marks below. The list stays, and is now the list below.
+    #[tactic(auto, using(crate::proofs::Overlays::over_last))]
     pub fn flush(&mut self)
         ensures none { holding self.new ≡ [] }
         ensures list { overlaid S.Readable.marks self.new ≡ overlaid S.Readable.marks self.old }
         ensures below { S.Readable.marks self.new.below ≡ overlaid S.Readable.marks self.old }
     {
-        while let Some(Record { block, mark }) = self.pop() {
-            self.put_below(block, mark);
+        while let Some(held) = self.records.pop() {
+            self.put_below(held);
         }
     }
 
-    // Takes the last held mark away.
-    fn pop(&mut self) -> Option<Record>
-        ensures { Pops S.Readable.marks self.old self.new result }
-    {
-        let last = self.held().len().checked_sub(1)?;
-        self.count = last;
-        Some(self.records[last])
-    }
-
     // Writes a mark below. A held block is one of the sheet, so the write is granted.
-    fn put_below(&mut self, block: usize, mark: u32)
+    fn put_below(&mut self, held: Record)
         ensures held { holding self.new ≡ holding self.old }
-        ensures below { S.Readable.marks self.new.below ≡ slice_set (S.Readable.marks self.old.below) block mark }
+        ensures below { S.Readable.marks self.new.below ≡ slice_set (S.Readable.marks self.old.below) held.block held.mark }
     {
-        let _ = self.below.write(block, mark);
+        let _ = self.below.write(held.block, held.mark);
     }
 
     // Replaces the mark that is held for a block, which is at an index.
-    fn replace(&mut self, index: usize, block: usize, mark: u32)
-        requires { HeldAt block (holding self.old) index }
-        ensures list { overlaid S.Readable.marks self.new ≡ slice_set (overlaid S.Readable.marks self.old) block mark }
-        ensures put { HeldPuts S.Readable.marks self.old block mark self.new }
+    fn replace(&mut self, index: usize, written: Record)
+        requires { HeldAt written.block (holding self.old) index }
+        ensures list { overlaid S.Readable.marks self.new ≡ slice_set (overlaid S.Readable.marks self.old) written.block written.mark }
+        ensures put { HeldPuts S.Readable.marks self.old written.block written.mark self.new }
     {
-        self.records[index] = Record { block, mark };
+        self.records[index] = written;
     }
 
     // Holds a mark for a block that none is held for; where no more can be held, it goes below.
-    fn add(&mut self, block: usize, mark: u32) -> Result<(), Denial>
-        requires absent { Absent block (holding self.old) }
-        requires inside { block < length (overlaid S.Readable.marks self.old) }
-        ensures wrote { Writes (overlaid S.Readable.marks) self.old block mark self.new result }
-        ensures put { OnOk result (HeldPuts S.Readable.marks self.old block mark self.new) }
+    #[tactic(auto, using(crate::specs::Overlays::over_length, crate::proofs::Overlays::over_below, crate::proofs::Overlays::over_last))]
+    fn add(&mut self, written: Record) -> Result<(), Denial>
+        requires absent { Absent written.block (holding self.old) }
+        requires inside { written.block < length (overlaid S.Readable.marks self.old) }
+        ensures wrote { Writes (overlaid S.Readable.marks) self.old written.block written.mark self.new result }
+        ensures put { OnOk result (HeldPuts S.Readable.marks self.old written.block written.mark self.new) }
     {
-        match self.vacancy() {
-            Some(index) => {
-                self.records[index] = Record { block, mark };
-                self.count = index + 1;
-                Ok(())
-            }
-            None => self.below.write(block, mark),
+        if self.records.is_full() {
+            self.below.write(written.block, written.mark)
+        } else {
+            self.records.push(written);
+            Ok(())
         }
     }
 }
@@ -129,8 +98,7 @@ impl<S: Writable> Held<S> {
 impl<S: Readable> Readable for Held<S> {
     ghost marks = { overlaid S.Readable.marks };
 
-    ghost short = { λ h. over_short (holding h) (S.Readable.marks h.below) (S.Readable.short h.below) };
-
+    #[tactic(auto, using(crate::specs::Overlays::over_length))]
     fn len(&self) -> usize {
         self.below.len()
     }
@@ -142,6 +110,8 @@ impl<S: Readable> Readable for Held<S> {
             None => self.below.read(block),
         }
     }
+
+    ghost short = { λ h. over_short (holding h) (S.Readable.marks h.below) (S.Readable.short h.below) };
 }
 
 impl<S: Writable> Writable for Held<S> {
@@ -152,10 +122,10 @@ impl<S: Writable> Writable for Held<S> {
         check_block(block, self.len())?;
         match self.position(block) {
             Some(index) => {
-                self.replace(index, block, mark);
+                self.replace(index, Record { block, mark });
                 Ok(())
             }
-            None => self.add(block, mark),
+            None => self.add(Record { block, mark }),
         }
     }
 }

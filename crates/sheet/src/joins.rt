@@ -1,5 +1,5 @@
 // A joined sheet: two sheets end to end.
-ghost use Rattle.std.specs.Prelude.{◌≡◌, ◌+◌, ◌≤◌, ◌++◌, OnOk};
+ghost use Rattle.std.specs.Prelude.{◌≡◌, ◌≤◌, ◌++◌, OnOk};
 ghost use Rattle.sheet.specs.Joins.{JoinedPuts, joined, joined_marks};
 ghost use Rattle.sheet.specs.Marks.{Writes, cut_short};
 ghost use Rattle.sheet.specs.Parts.{Finds, Locates};
@@ -44,6 +44,7 @@ impl<L: Readable, R: Readable> Joined<L, R> {
     }
 
     // The part that has a block, where a read or a write answers for the block.
+    #[tactic(auto, using(crate::proofs::Ends::found))]
     fn part(&self, block: usize) -> Result<Part, Denial>
         ensures { Finds L.Readable.marks R.Readable.marks self.now block result }
     {
@@ -54,8 +55,7 @@ impl<L: Readable, R: Readable> Joined<L, R> {
 impl<L: Readable, R: Readable> Readable for Joined<L, R> {
     ghost marks = { joined_marks L.Readable.marks R.Readable.marks };
 
-    ghost short = { λ s. cut_short (L.Readable.marks s.first ++ R.Readable.marks s.second) };
-
+    #[tactic(auto, using(crate::proofs::Ends::joined_length))]
     fn len(&self) -> usize {
         block_count(self.first.len() + self.second.len())
     }
@@ -66,6 +66,8 @@ impl<L: Readable, R: Readable> Readable for Joined<L, R> {
             Part::Second(at) => self.second.read(at),
         }
     }
+
+    ghost short = { λ s. cut_short (L.Readable.marks s.first ++ R.Readable.marks s.second) };
 }
 
 impl<L: Writable, R: Writable> Writable for Joined<L, R> {

@@ -9,6 +9,7 @@ use denial::Denial;
 mod holds;
 mod joins;
 mod records;
+mod sources;
 mod strips;
 mod tables;
 #[cfg(test)]
@@ -16,6 +17,7 @@ mod tests;
 
 pub use holds::{Held, MAX_HELD};
 pub use joins::Joined;
+pub use sources::Source;
 pub use strips::Strip;
 pub use tables::Table;
 
@@ -45,8 +47,6 @@ pub trait Readable {
     // The marks, from block 0 on.
     ghost marks: { Self → List ℕ };
 
-    ghost short: { (s : Self) → length (marks s) ≤ 65536 };
-
     // The number of blocks.
     fn len(&self) -> usize
         ensures { result ≡ length (marks self.now) };
@@ -54,6 +54,9 @@ pub trait Readable {
     // The mark of a block.
     fn read(&self, block: usize) -> Result<u32, Denial>
         ensures { Reads (marks self.now) block result };
+
+    // No sheet has more than `MAX_BLOCKS` marks.
+    ghost short: { (s : Self) → length (marks s) ≤ 65536 };
 }
 
 // A readable sheet whose marks can be written too.

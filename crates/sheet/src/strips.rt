@@ -1,9 +1,7 @@
 // A strip: a sheet over the caller's bytes, one byte a mark.
-ghost use Rattle.std.specs.Prelude.{◌≡◌, ◌<◌, length, slice_index};
-ghost use Rattle.sheet.specs.Marks.{cut, cut_short};
+ghost use Rattle.std.specs.Prelude.{◌≡◌};
 
-use crate::{Readable, block_count, check_block};
-use denial::Denial;
+use crate::sources::Source;
 
 #[derive(Drop)]
 pub struct Strip<'a> {
@@ -16,27 +14,16 @@ impl<'a> Strip<'a> {
     {
         Strip { bytes }
     }
-
-    // The mark of a block of the sheet.
-    fn mark(&self, block: usize) -> u32
-        requires { block < length (cut self.now.bytes.now) }
-        ensures { result ≡ slice_index (cut self.now.bytes.now) block }
-    {
-        u32::from(self.bytes[block])
-    }
 }
 
-impl<'a> Readable for Strip<'a> {
-    ghost marks = { λ s. cut s.bytes.now };
+impl<'a> Source for Strip<'a> {
+    ghost numbers = { λ s. s.bytes.now };
 
-    ghost short = { λ s. cut_short s.bytes.now };
-
-    fn len(&self) -> usize {
-        block_count(self.bytes.len())
+    fn count(&self) -> usize {
+        self.bytes.len()
     }
 
-    fn read(&self, block: usize) -> Result<u32, Denial> {
-        check_block(block, self.len())?;
-        Ok(self.mark(block))
+    fn number(&self, index: usize) -> Option<u32> {
+        self.bytes.get(index).copied().map(u32::from)
     }
 }

@@ -1,5 +1,5 @@
 // Worked reads and writes, at the ends of sheets and past them.
-ghost use Rattle.std.specs.Prelude.{◌≡◌, Ok, Err, slice_set};
+ghost use Rattle.std.specs.Prelude.{◌≡◌, OnOk, OnErr, slice_set};
 
 use crate::*;
 
@@ -42,7 +42,8 @@ fn cuts_a_long_strip(rt: HostRuntime) {
 
 // What a caller knows of its numbers once the table over them is gone.
 fn put_mark(numbers: &mut [u32], block: usize, mark: u32) -> Result<(), Denial>
-    ensures { elim result [ Ok _ ↦ numbers.new ≡ slice_set numbers.old block mark | Err _ ↦ numbers.new ≡ numbers.old ] }
+    ensures granted { OnOk result (numbers.new ≡ slice_set numbers.old block mark) }
+    ensures denied { OnErr result (numbers.new ≡ numbers.old) }
 {
     let mut table = Table::new(numbers);
     table.write(block, mark)

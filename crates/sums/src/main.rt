@@ -12,26 +12,21 @@ use std::io::Read;
 
 const PLACES: usize = 16;
 
-fn sum_line(heap: Global, kind: u8, place: usize, sum: u32) -> Result<String, AllocError>
-    ensures { IfOk result (λ line. string_bytes line ≡ line_of_sum kind place sum) }
+// Adds the line of a sum.
+fn add_sum(text: &mut String, kind: u8, place: usize, sum: u32) -> Result<(), AllocError>
+    ensures { OnOk result (string_bytes text.new ≡ string_bytes text.old ++ line_of_sum kind place sum) }
 {
-    format!(in heap; "kind {kind} place {place} sum {sum}\n")
+    writeln!(text, "kind {kind} place {place} sum {sum}")
 }
 
 // Adds a line for the sum at each of the first places.
-fn add_sums<F: Field, S: Readable>(
-    heap: Global,
-    text: &mut String,
-    sheet: &S,
-) -> Result<(), AllocError>
+#[tactic(auto, unfolding(crate::specs::Reports::lines_of_sums))]
+fn add_sums<F: Field, S: Readable>(text: &mut String, sheet: &S) -> Result<(), AllocError>
     ensures { OnOk result (string_bytes text.new ≡ string_bytes text.old ++ lines_of_sums F.Field.arithmetic (S.Readable.marks sheet.now) 16) }
 {
     for place in 0..PLACES {
-        let Ok(sum) = sum_at::<F, S>(sheet, place) else {
-            unreachable()
-        };
-        let line = sum_line(heap, F::kind(), place, sum)?;
-        text.push_str(line.as_str())?;
+        let sum = sum_at::<F, S>(sheet, place).unwrap();
+        add_sum(text, F::kind(), place, sum)?;
     }
     Ok(())
 }
@@ -43,12 +38,12 @@ fn describe(heap: Global, input: &[u8]) -> Result<String, AllocError>
     let strip = Strip::new(input);
     let blocks = strip.len();
     let mut text = format!(in heap; "blocks {blocks}\n")?;
-    add_sums::<Prime, Strip>(heap, &mut text, &strip)?;
-    add_sums::<Binary, Strip>(heap, &mut text, &strip)?;
+    add_sums::<Prime, Strip>(&mut text, &strip)?;
+    add_sums::<Binary, Strip>(&mut text, &strip)?;
     Ok(text)
 }
 
-fn run(rt: &HostRuntime) -> anyhow::Result<()> {
+fn main(rt: HostRuntime) -> anyhow::Result<()> {
     let mut input = Vec::new(rt.alloc());
     rt.stdin().read_to_end(&mut input)?;
     if input.len() > MAX_BLOCKS {
@@ -57,8 +52,4 @@ fn run(rt: &HostRuntime) -> anyhow::Result<()> {
     let text = describe(rt.alloc(), &input)?;
     print!(rt; "{text}")?;
     Ok(())
-}
-
-fn main(rt: HostRuntime) -> anyhow::Result<()> {
-    run(&rt)
 }

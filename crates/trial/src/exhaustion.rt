@@ -1,70 +1,102 @@
 // Shortest generators by a trial of all lists of codes, from the definition alone.
-ghost use Rattle.std.specs.Prelude.{◌≡◌, ℕ, ◌/◌, ◌%◌, ◌^◌, ◌<◌, ◌≤◌, length, slice_index};
+ghost use Rattle.std.specs.Prelude.{◌≡◌, ℕ, ◌+◌, ◌-◌, ◌/◌, ◌%◌, ◌^◌, ◌<◌, ◌≤◌, ◌↔◌, List, length, drop, slice_index, IsTrue, IfSome, IfNone};
+ghost use Rattle.arrayvec.specs.ArrayVec.{array_vec_len};
+ghost use Rattle.generator.specs.Generators.{Generates, Only, Shortest, dot};
+ghost use Rattle.trial.specs.Five.{five};
 
-use crate::five_field::{Five, SIZE};
-use field::Field;
+use crate::five_field::Five;
+use arrayvec::ArrayVec;
+use field::{FermatPrime, Field};
+use generator::dot_product;
 
 // No stretch of the trial is longer.
 pub const LONGEST: usize = 7;
 
-// The number of lists of so many codes.
-pub(crate) fn list_count(length: usize) -> usize
-    requires { length ≤ 7 }
-    ensures { result ≡ 5 ^ length }
-{
-    (SIZE as usize).pow(length as u32)
+// A generator of that length has so many codes.
+const MOST_CODES: usize = LONGEST + 1;
+
+pub(crate) type Codes = ArrayVec<u32, MOST_CODES>;
+
+// All lists of so many codes.
+#[derive(Clone, Copy)]
+pub(crate) struct Lists {
+    pub length: usize,
+    ghost short: { length ≤ 7 },
 }
 
-// The digits of a number, the lowest first: the numbers below `list_count(length)` give all lists of that length, with zeros behind.
-pub(crate) fn digits(number: usize) -> [u32; LONGEST + 1]
-    ensures size { length result ≡ 8 }
-    ensures each { (i : ℕ) → i < 8 → slice_index result i ≡ number / 5 ^ i % 5 }
-{
-    let mut codes = [0; LONGEST + 1];
-    let mut left = number;
-    for code in codes.iter_mut() {
-        *code = (left % SIZE as usize) as u32;
-        left /= SIZE as usize;
+impl Lists {
+    // How many they are.
+    pub(crate) fn count(self) -> u32
+        ensures { result ≡ 5 ^ self.length }
+    {
+        // There is no `From<usize>` for `u32`.
+        Five::SIZE.pow(self.length as u32)
     }
-    codes
+
+    // The list of the digits of a number, the lowest first: the numbers below the count give all lists.
+    pub(crate) fn get(self, number: u32) -> Codes
+        ensures size { array_vec_len result ≡ self.length }
+        ensures each { (i : ℕ) → i < self.length → slice_index result.items i ≡ number / 5 ^ i % 5 }
+    {
+        let mut codes = Codes::new();
+        let mut left = number;
+        for _place in 0..self.length {
+            codes.push(left % Five::SIZE);
+            left /= Five::SIZE;
+        }
+        codes
+    }
+
+    // The last of these lists that, with a 1 behind it, is a generator of the stretch.
+    pub(crate) fn generator_of(self, stretch: &[u32]) -> Option<Found>
+        ensures none { IfNone result ((g : List ℕ) → ¬ Generates five self.length g stretch.now) }
+        ensures generates { IfSome result (λ found. Generates five self.length found.generator.items stretch.now) }
+        ensures only { IfSome result (λ found. IsTrue found.only ↔ Only five self.length found.generator.items stretch.now) }
+    {
+        let mut found = None;
+        for number in 0..self.count() {
+            let mut generator = self.get(number);
+            generator.push(1);
+            if generates::<Five>(&generator, stretch) {
+                found = Some(Found {
+                    generator,
+                    only: found.is_none(),
+                });
+            }
+        }
+        found
+    }
+}
+
+// A generator of a stretch, and whether it is the only one of its length.
+#[derive(Drop)]
+pub(crate) struct Found {
+    pub generator: Codes,
+    pub only: bool,
 }
 
 // Whether the products of the generator with as many numbers in a row of the stretch add up to 0, wherever these stand.
-fn generates(generator: &[u32], stretch: &[u32]) -> bool
+fn generates<F: Field>(generator: &[u32], stretch: &[u32]) -> bool
     requires { 0 < length generator.now }
+    ensures { IsTrue result ↔ ((i : ℕ) → i + length generator.now ≤ length stretch.now
+        → dot F.arithmetic generator.now (drop i stretch.now) ≡ 0) }
 {
-    for run in stretch.windows(generator.len()) {
-        let mut total = 0;
-        for (code, number) in generator.iter().zip(run.iter()) {
-            total = Five::add(total, Five::mul(*code, *number));
-        }
-        if total != 0 {
-            return false;
-        }
-    }
-    true
+    stretch
+        .windows(generator.len())
+        .all(|run| dot_product::<F>(generator, run) == 0)
 }
 
-// The generators of a stretch that have one length: how many they are, and the last of them.
-#[derive(Drop)]
-pub(crate) struct Generators {
-    pub count: usize,
-    pub last: [u32; LONGEST + 1],
-}
-
-// All lists of this length are tried.
-pub(crate) fn try_all(stretch: &[u32], length: usize) -> Generators
-    requires { length ≤ 7 }
+// A shortest generator of a stretch.
+pub(crate) fn shortest(stretch: &[u32]) -> Option<Found>
+    ensures none { IfNone result (7 < length stretch.now) }
+    ensures shortest { IfSome result (λ found. Shortest five (array_vec_len found.generator - 1) found.generator.items stretch.now) }
+    ensures only { IfSome result (λ found. IsTrue found.only ↔ Only five (array_vec_len found.generator - 1) found.generator.items stretch.now) }
 {
-    let mut count = 0;
-    let mut last = [0; LONGEST + 1];
-    for number in 0..list_count(length) {
-        let mut candidate = digits(number);
-        candidate[length] = 1;
-        if generates(&candidate[..=length], stretch) {
-            count += 1;
-            last = candidate;
+    for length in 0..=LONGEST {
+        let found = Lists { length }.generator_of(stretch);
+        if found.is_some() {
+            return found;
         }
     }
-    Generators { count, last }
+    None
 }

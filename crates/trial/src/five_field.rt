@@ -1,47 +1,35 @@
 // The field of the remainders by 5.
-ghost use Rattle.trial.specs.Five.{five};
-ghost use Rattle.trial.specs.FiveLaws.{five_laws};
+ghost use Rattle.trial.specs.Five.{five_squares};
+ghost use Rattle.trial.specs.FiveLaws.{five_field};
 
-use field::Field;
+use field::FermatPrime;
 
-pub const SIZE: u32 = 5;
+const SQUARES: [u32; 2] = [2, 4];
 
 pub struct Five;
 
-impl Field for Five {
-    ghost arithmetic = { five };
+impl FermatPrime for Five {
+    ghost SIZE = { 5 };
 
-    ghost lawful = { five_laws };
+    const SIZE: u32 = 5;
 
-    fn size() -> u32 {
-        SIZE
-    }
+    ghost BASE = { 2 };
 
-    fn base() -> u32 {
-        2
-    }
+    const BASE: u32 = 2;
 
-    fn order() -> usize {
-        4
-    }
+    ghost KIND = { 255 };
 
-    fn kind() -> u8 {
-        255
-    }
+    const KIND: u8 = 255;
 
-    fn width() -> usize {
-        1
-    }
+    ghost WIDTH = { 1 };
 
-    fn add(a: u32, b: u32) -> u32 {
-        ((a as u64 + b as u64) % SIZE as u64) as u32
-    }
+    const WIDTH: usize = 1;
 
-    fn neg(a: u32) -> u32 {
-        (SIZE - a % SIZE) % SIZE
-    }
+    ghost squares = { five_squares };
 
-    fn mul(a: u32, b: u32) -> u32 {
-        (a as u64 * b as u64 % SIZE as u64) as u32
+    ghost lawful = { five_field };
+
+    fn squares() -> &'static [u32] {
+        &SQUARES
     }
 }

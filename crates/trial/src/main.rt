@@ -2,9 +2,11 @@
 // codes, and prints how many stretches were compared.
 #![tactic(auto)]
 
-ghost use Rattle.std.specs.Prelude.{◌≡◌, ◌+◌, ◌^◌, ◌≤◌, length};
+ghost use Rattle.std.specs.Prelude.{◌≡◌, ℕ, ◌+◌, ◌^◌, ◌<◌, List};
+ghost use Rattle.generator.specs.Finds.{Long, Short};
+ghost use Rattle.trial.specs.Five.{five};
 
-use crate::exhaustion::{Generators, LONGEST, digits, list_count, try_all};
+use crate::exhaustion::{LONGEST, Lists, shortest};
 use crate::five_field::Five;
 use denial::Denial;
 use generator::shortest_generator;
@@ -13,9 +15,10 @@ mod exhaustion;
 mod five_field;
 
 // What the memory holds before a call.
-const BEFORE: u32 = 9;
+const BEFORE: [u32; 18] = [9; 18];
 
 // How a comparison came out.
+#[derive(Drop)]
 enum Outcome {
     // The library grants the one generator of the least length, which is at most half the length of the stretch.
     Granted,
@@ -24,94 +27,74 @@ enum Outcome {
     Differs,
 }
 
-// Whether the memory begins with these numbers, and is as it was behind them.
-fn holds(memory: &[u32], numbers: &[u32]) -> bool {
-    for (index, number) in memory.iter().enumerate() {
-        if *number != numbers.get(index).copied().unwrap_or(BEFORE) {
-            return false;
-        }
-    }
-    true
-}
-
-// Compares the answers for a stretch whose shortest generators have this length.
-fn compare_at(stretch: &[u32], length: usize, found: &Generators) -> Outcome
-    requires { length ≤ 7 }
+// Compares the answer for a stretch with one of its shortest generators.
+fn compare(stretch: &[u32]) -> Outcome
+    ensures granted { result ≡ Outcome.Granted → (L : ℕ) × (g : List ℕ) × Short five stretch.now L g }
+    ensures denied { result ≡ Outcome.Denied → (L : ℕ) × (g : List ℕ) × Long five stretch.now L g }
 {
-    let mut memory = [BEFORE; 18];
+    let Some(found) = shortest(stretch) else {
+        return Outcome::Differs;
+    };
+    let mut memory = BEFORE;
     let answer = shortest_generator::<Five>(stretch, &mut memory);
-    let short = 2 * length <= stretch.len();
+    let least = found.generator.len() - 1;
+    let mut written = BEFORE;
+    written[..found.generator.len()].copy_from_slice(&found.generator);
+    let short = least <= stretch.len() / 2;
+    let grants = short && found.only && memory == written;
     match answer {
-        Ok(answered) if short => {
-            if answered == length && found.count == 1 && holds(&memory, &found.last[..=length]) {
-                Outcome::Granted
-            } else {
-                Outcome::Differs
-            }
-        }
-        Err(Denial::GeneratorTooLong) if !short && holds(&memory, &[]) => Outcome::Denied,
+        Ok(length) if grants && length == least => Outcome::Granted,
+        Err(Denial::GeneratorTooLong) if !short && memory == BEFORE => Outcome::Denied,
         _ => Outcome::Differs,
     }
 }
 
-// Tries the lengths in turn until one has a generator.
-fn compare(stretch: &[u32]) -> Outcome
-    requires { length stretch.now ≤ 7 }
-{
-    for length in 0..=stretch.len() {
-        let found = try_all(stretch, length);
-        if found.count > 0 {
-            return compare_at(stretch, length, &found);
-        }
-    }
-    Outcome::Differs
+// How often each outcome came.
+#[derive(Default)]
+struct Tally {
+    granted: u32,
+    denied: u32,
+    differing: u32,
 }
 
-// How often each outcome came.
-struct Tally {
-    granted: usize,
-    denied: usize,
-    differing: usize,
+impl Tally {
+    fn count(&mut self, outcome: Outcome)
+        requires { self.old.granted + self.old.denied + self.old.differing + 1 < 2 ^ 32 }
+        ensures granted { outcome ≡ Outcome.Granted → self.new ≡ record self.old { granted = self.old.granted + 1 } }
+        ensures denied { outcome ≡ Outcome.Denied → self.new ≡ record self.old { denied = self.old.denied + 1 } }
+        ensures differing { outcome ≡ Outcome.Differs → self.new ≡ record self.old { differing = self.old.differing + 1 } }
+    {
+        match outcome {
+            Outcome::Granted => self.granted += 1,
+            Outcome::Denied => self.denied += 1,
+            Outcome::Differs => self.differing += 1,
+        }
+    }
 }
 
 // Compares all stretches of a length.
-fn compare_all(length: usize) -> Tally
-    requires { length ≤ 7 }
-    ensures { result.granted + result.denied + result.differing ≡ 5 ^ length }
+fn compare_all(stretches: Lists) -> Tally
+    ensures { result.granted + result.denied + result.differing ≡ 5 ^ stretches.length }
 {
-    let mut granted = 0;
-    let mut denied = 0;
-    let mut differing = 0;
-    for number in 0..list_count(length) {
-        let stretch = digits(number);
-        match compare(&stretch[..length]) {
-            Outcome::Granted => granted += 1,
-            Outcome::Denied => denied += 1,
-            Outcome::Differs => differing += 1,
-        }
+    let mut tally = Tally::default();
+    for number in 0..stretches.count() {
+        tally.count(compare(&stretches.get(number)));
     }
-    Tally {
-        granted,
-        denied,
-        differing,
-    }
+    tally
 }
 
-fn run(rt: &HostRuntime) -> anyhow::Result<()> {
-    let mut compared = 0usize;
+fn main(rt: HostRuntime) -> anyhow::Result<()> {
+    let mut compared = 0u32;
     for length in 0..=LONGEST {
+        let stretches = Lists { length };
         let Tally {
             granted,
             denied,
             differing,
-        } = compare_all(length);
+        } = compare_all(stretches);
         println!(rt; "length {length} granted {granted} denied {denied} differing {differing}")?;
-        compared = compared.saturating_add(list_count(length));
+        compared = compared.saturating_add(stretches.count());
     }
     println!(rt; "compared {compared}")?;
     Ok(())
-}
-
-fn main(rt: HostRuntime) -> anyhow::Result<()> {
-    run(&rt)
 }

@@ -5,13 +5,6 @@ use Rattle.field.proofs.Inverses.{inverse_power}
 use Rattle.field.specs.Powers.{power_remainder}
 use Rattle.field.proofs.Field.inv.Goals as goal
 
-pub returns-then-a-size-eq0 : goal.returns-then-a-size-eq0
-returns-then-a-size-eq0 g c =
-    let A = g.Self.Field.arithmetic in
-    let L = g.met.Self.Field.lawful in
-    let none = rw c.size-size.ensures at c.if-a-size-eq0.true in
-    sym (L.invert_remainder c.args.a ∙ ap A.invert none ∙ L.invert_zero)
-
 pub returns : goal.returns
 returns g c =
     let A = g.Self.Field.arithmetic in

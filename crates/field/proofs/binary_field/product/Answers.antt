@@ -1,6 +1,6 @@
-use Rattle.std.proofs.Common.{◌≡◌, suc, ◌+◌, ◌-◌, ◌*◌, ◌/◌, ◌%◌, ◌^◌, ◌<◌, sym, ap, ◌∙◌, arith, pow_mono}
+use Rattle.std.proofs.Common.{◌≡◌, suc, ◌+◌, ◌-◌, ◌*◌, ◌/◌, ◌%◌, sym, ap, ◌∙◌, arith}
 use lib.Bits.{bit_xor, xor_zero_r, xor_assoc}
-use Rattle.field.specs.Polynomials.{bit_times_lt, interleaved, interleaved_is, stepped, stepped_code}
+use Rattle.field.specs.Polynomials.{interleaved, interleaved_is, stepped, stepped_code}
 use Rattle.field.proofs.binary_field.product.Goals as goal
 
 pub loop-i-init : goal.loop-i-init
@@ -12,15 +12,6 @@ loop-i-init c =
       ap (λ d. interleaved (w - 1) m d c.args.a c.args.b) all
           ∙ interleaved_is w (w - 1) m (omega arith) c.requires.degree c.args.a c.args.b c.requires.reduced,
     )
-
-pub overflow_mul-sum : goal.overflow_mul-sum
-overflow_mul-sum c =
-    let below : c.loop-i.shifted < 2 ^ 32 = omega (arith, pow_mono {i = c.args.bits} {j = 32} (omega arith)) in
-    record { fits = bit_times_lt (2 ^ 32) c.loop-i.shifted c.loop-i.left below }
-
-pub overflow_mul-shifted-in-loop-i : goal.overflow_mul-shifted-in-loop-i
-overflow_mul-shifted-in-loop-i c =
-    record { fits = bit_times_lt (2 ^ 32) c.args.modulus (c.loop-i.shifted / 2 ^ (c.args.bits - 1)) c.ranges.modulus.fits }
 
 pub loop-i-preserved : goal.loop-i-preserved
 unfolding interleaved

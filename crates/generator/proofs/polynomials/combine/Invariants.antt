@@ -5,5 +5,7 @@ use Rattle.generator.specs.Steps.{shifted_at}
 abbrev pub invariant-loop-i : goal.invariant-loop-i
 invariant-loop-i g l =
     let A = g.F.Field.arithmetic in
-    (length l.sum ≡ 33)
-    × ((k : ℕ) → k < l.i → get_or l.sum k 0 ≡ A.plus (shifted_at l.p l.first k) (A.times l.factor (shifted_at l.e l.second k)))
+    record {
+      size : length l.sum.items ≡ l.i;
+      each : (k : ℕ) → k < l.i → get_or l.sum.items k 0 ≡ A.plus (shifted_at l.p l.first k) (A.times l.factor (shifted_at l.e l.second k));
+    }

@@ -1,17 +1,16 @@
-use Rattle.std.proofs.Common.{◌≡◌, ◌+◌, ◌-◌, drop, sym, ap, ◌∙◌, ap₂, arith}
-use Rattle.generator.proofs.Products.{dot_end, dot_more}
+use Rattle.std.proofs.Common.{◌≡◌, fold, zip, rules, ◌∙◌, refl}
+use Rattle.generator.proofs.Products.{fold_products}
 use Rattle.generator.proofs.polynomials.dot_product.Goals as goal
-use Rattle.generator.specs.Generators.{dot}
+use Rattle.std.proofs.lemmas.Fn.{fold_over, fronts}
+use Rattle.std.proofs.lemmas.Grind.{fold-append}
+use Rattle.std.proofs.lemmas.Iterator.{YieldsList-from_slice, YieldsList-from_zip, zips}
 
-pub loop-i-init : goal.loop-i-init
-loop-i-init g c = sym (dot_end g.F.Field.arithmetic c.args.first.now c.args.second.now c.min-i.result c.min-i.ensures)
-
-pub loop-i-preserved : goal.loop-i-preserved
-loop-i-preserved g c =
+pub returns : goal.returns
+returns g c =
     let A = g.F.Field.arithmetic in
     let xs = c.args.first.now in
     let ys = c.args.second.now in
-    let i = c.loop-i.i - 1 in
-    let next : c.loop-i.i ≡ i + 1 = omega arith in
-    c.add-total.ensures ∙ ap₂ A.plus c.mul.ensures (c.loop-i.invariant ∙ ap (λ n. dot A (drop n xs) (drop n ys)) next)
-    ∙ dot_more A xs ys i (omega arith) (omega arith)
+    let items = YieldsList-from_zip {s = c.zip.result} (YieldsList-from_slice xs cc) (YieldsList-from_slice ys cc) in
+    fold_over (zips fronts fronts) (λ p. (p.0.now, p.1.now)) _ (λ ps t. t ≡ fold (λ u p. A.plus u (A.times p.0 p.1)) 0 ps) _
+    (λ ps a x b f j k. search (rules, fold-append)) c.zip.result (zip xs ys) 0 c.fold.result items.runs refl c.fold.ensures.ran
+    ∙ fold_products g.met.F.Field.lawful xs ys

@@ -36,28 +36,28 @@ impl Sequence {
 
 // How many of the stretches have a generator of at most half their length, and the total of these lengths.
 #[derive(Default)]
-struct Found {
+struct Totals {
     granted: u32,
     lengths: usize,
 }
 
-fn find_generators<F: Field>() -> Found {
+fn find_generators<F: Field>() -> Totals {
     let mut sequence = Sequence { last: 1 };
-    let mut found = Found::default();
+    let mut totals = Totals::default();
     for _stretch in 0..STRETCHES {
         let stretch = sequence.next_stretch::<F>();
         let mut memory = [0; MAX_STRETCH];
         if let Ok(length) = shortest_generator::<F>(&stretch, &mut memory) {
-            found.granted = found.granted.saturating_add(1);
-            found.lengths = found.lengths.saturating_add(length);
+            totals.granted = totals.granted.saturating_add(1);
+            totals.lengths = totals.lengths.saturating_add(length);
         }
     }
-    found
+    totals
 }
 
 fn main(rt: HostRuntime) -> anyhow::Result<()> {
     let start = Instant::now(&rt)?;
-    let Found { granted, lengths } = find_generators::<Prime>();
+    let Totals { granted, lengths } = find_generators::<Prime>();
     let time = start.elapsed(&rt)?.as_nanos() / u128::from(STRETCHES);
     println!(rt; "generators stretches {STRETCHES} granted {granted} lengths {lengths}")?;
     eprintln!(rt; "generators: {time} ns a stretch")?;

@@ -1,8 +1,8 @@
 // Denials: what a call answers where it grants nothing.
 #![tactic(auto)]
 
-ghost use Rattle.denial.specs.Refusals.{number_of_layer, refusal, text};
 ghost use Rattle.std.specs.Prelude.{◌≡◌, Some};
+ghost use Rattle.denial.specs.Refusals.{number_of_layer, refusal, text};
 
 use std::error::Error;
 use std::fmt;
@@ -44,7 +44,7 @@ pub enum Denial {
 }
 
 impl Denial {
-    // The number of the question that was answered with no. The enum is the denial; this is what messages and people call it by.
+    // The number that messages name the denial by: that of the question that was answered with no. The enum itself is the denial.
     pub fn number(&self) -> u8
         ensures { result ≡ (refusal self.now).number }
     {
@@ -72,7 +72,7 @@ impl Denial {
         }
     }
 
-    // The place that the question was about; 0 where it was about no place.
+    // The place that the question was about; 0 where it was about no place, since every denial has a place in messages.
     pub fn place(&self) -> usize
         ensures { result ≡ (refusal self.now).place }
     {

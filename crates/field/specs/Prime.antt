@@ -36,4 +36,4 @@ squares =
 pub record RemainderField (q base kind width : ℕ) (squares : List ℕ) : Type 0 where
   pub laws : Laws (remainders q base kind width)
   pub repeated : (i : ℕ) → i < length squares → slice_index squares i ≡ raised (product_mod q) base (2 ^ i)
-  pub halves : q ≡ 2 ^ length squares + 1
+  pub size_is : q ≡ 2 ^ length squares + 1

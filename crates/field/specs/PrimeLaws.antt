@@ -42,4 +42,4 @@ pub prime_laws : Laws prime
 prime_laws = remainder_laws 65537 3 1 3 (omega arith) (omega arith) prime_order (omega arith, omega arith) (omega arith, omega arith) (omega arith)
 
 pub prime_field : RemainderField 65537 3 1 3 squares
-prime_field = record { laws = prime_laws; repeated = λ i h. prime_squares i (omega arith); halves = refl }
+prime_field = record { laws = prime_laws; repeated = λ i h. prime_squares i (omega arith); size_is = refl }

@@ -37,8 +37,6 @@ pub struct Binary;
 impl Field for Binary {
     ghost arithmetic = { binary };
 
-    ghost lawful = { binary_laws };
-
     fn size() -> u32 {
         SIZE
     }
@@ -70,4 +68,6 @@ impl Field for Binary {
     fn mul(a: u32, b: u32) -> u32 {
         product(BITS, MODULUS, a % SIZE, b % SIZE)
     }
+
+    ghost lawful = { binary_laws };
 }

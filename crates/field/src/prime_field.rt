@@ -31,9 +31,9 @@ impl FermatPrime for Prime {
 
     ghost squares = { squares };
 
-    ghost lawful = { prime_field };
-
     fn squares() -> &'static [u32] {
         &SQUARES
     }
+
+    ghost lawful = { prime_field };
 }

@@ -38,8 +38,6 @@ pub trait FermatPrime {
 impl<P: FermatPrime> Field for P {
     ghost arithmetic = { remainders P.SIZE P.BASE P.KIND P.WIDTH };
 
-    ghost lawful = { P.lawful.laws };
-
     fn size() -> u32 {
         P::SIZE
     }
@@ -61,7 +59,7 @@ impl<P: FermatPrime> Field for P {
         P::WIDTH
     }
 
-    // The remainder is below a number of 32 bits, here and in `mul`, so the cast loses nothing.
+    // The remainder fits 32 bits, here and in `mul`: the casts are proved to lose nothing.
     fn add(a: u32, b: u32) -> u32 {
         ((u64::from(a) + u64::from(b)) % u64::from(P::SIZE)) as u32
     }
@@ -86,4 +84,6 @@ impl<P: FermatPrime> Field for P {
         }
         power
     }
+
+    ghost lawful = { P.lawful.laws };
 }

@@ -153,8 +153,8 @@ fn binary_values(rt: HostRuntime) {
 
 #[test]
 fn codes_lie_below_the_size(rt: HostRuntime) {
-    assert_eq!(rt; Prime::is_code(65536), true);
-    assert_eq!(rt; Prime::is_code(65537), false);
-    assert_eq!(rt; Binary::is_code(255), true);
-    assert_eq!(rt; Binary::is_code(256), false);
+    assert!(rt; Prime::is_code(65536));
+    assert!(rt; !Prime::is_code(65537));
+    assert!(rt; Binary::is_code(255));
+    assert!(rt; !Binary::is_code(256));
 }

@@ -1,5 +1,6 @@
 -- The steps of the algorithm of Berlekamp and Massey, on coefficients: those of a polynomial stand in a list, the lowest first.
 use Rattle.std.specs.Prelude.{◌≡◌, ℕ, ◌+◌, ◌-◌, ◌<◌, max, cond, List, length, nat_lt, slice_index}
+use Rattle.arrayvec.specs.ArrayVec.{array_vec_len}
 use Rattle.field.specs.Field.{Arithmetic}
 use Rattle.generator.specs.declared.berlekamp_massey.State.{State}
 
@@ -14,7 +15,7 @@ pub record Combined (A : Arithmetic) (p : ℕ) (g : List ℕ) (c e : ℕ) (b : L
 
 -- the length of the generator, one less than its number of coefficients
 abbrev pub state_length : State → ℕ
-state_length s = length s.generator.items - 1
+state_length s = array_vec_len s.generator - 1
 
 -- after k numbers the generator fails at the next one by a discrepancy d. The next length is the larger of the length and k + 1 less the
 -- length, and a multiple of the helper makes up for the discrepancy. Where the length grows, the generator becomes the helper.

@@ -1,9 +1,10 @@
 // The algorithm of Berlekamp and Massey: it takes the numbers of a stretch in, one by one. Where the generator so far fails at a number, a
 // multiple of an earlier generator, which failed too, makes up for it.
 ghost use Rattle.std.specs.Prelude.{◌≡◌, ◌+◌, ◌-◌, ◌*◌, ◌<◌, ◌≤◌, max, [], ◌∷◌, length, drop};
+ghost use Rattle.arrayvec.specs.ArrayVec.{array_vec_len};
 ghost use Rattle.generator.specs.Finds.{Short, Long};
 
-use crate::polynomials::{Polynomial, combine, dot_product, one};
+use crate::polynomials::{Polynomial, Shifted, combine, dot_product, one};
 use field::Field;
 use std::mem;
 
@@ -12,18 +13,18 @@ use std::mem;
 struct State {
     // A shortest generator of these numbers.
     generator: Polynomial,
-    // A generator of fewer of them, and the inverse of its discrepancy at the number that it failed at.
+    // An earlier generator, and the inverse of its discrepancy at the number that it failed at; 1 and 1 before the first failure.
     helper: Polynomial,
     inverse: u32,
 
-    ghost not_empty: { 0 < length generator.items },
+    ghost not_empty: { 0 < array_vec_len generator },
 }
 
 impl State {
     ghost use Rattle.generator.specs.Generators.{dot};
     ghost use Rattle.generator.specs.Steps.{Steps, state_length};
 
-    // Before the first number: the constant polynomial 1 generates no numbers.
+    // Before the first number: the constant polynomial 1 generates the empty stretch.
     fn new() -> State
         ensures generator { result.generator.items ≡ 1 ∷ [] }
         ensures helper { result.helper.items ≡ 1 ∷ [] }
@@ -47,7 +48,7 @@ impl State {
     fn discrepancy<F: Field>(&self, stretch: &[u32], k: usize) -> u32
         requires enough_before { state_length self.now ≤ k }
         requires inside { k < length stretch.now }
-        ensures { result ≡ dot F.Field.arithmetic self.now.generator.items (drop (k - state_length self.now) stretch.now) }
+        ensures { result ≡ dot F.arithmetic self.now.generator.items (drop (k - state_length self.now) stretch.now) }
     {
         dot_product::<F>(&self.generator, &stretch[k - self.length()..])
     }
@@ -56,18 +57,20 @@ impl State {
     fn step<F: Field>(&mut self, k: usize, discrepancy: u32)
         requires enough_before { state_length self.old ≤ k }
         requires within_limit { k < 32 }
-        ensures { Steps F.Field.arithmetic k discrepancy self.old self.new }
+        ensures { Steps F.arithmetic k discrepancy self.old self.new }
     {
         let length = self.length();
         let next_length = next_length(length, k + 1);
         let factor = F::neg(F::mul(discrepancy, self.inverse));
-        let next = combine::<F>(
-            &self.generator,
-            next_length - length,
-            factor,
-            &self.helper,
-            next_length - (k + 1 - length),
-        );
+        let generator = Shifted {
+            polynomial: &self.generator,
+            shift: next_length - length,
+        };
+        let helper = Shifted {
+            polynomial: &self.helper,
+            shift: next_length - (k + 1 - length),
+        };
+        let next = combine::<F>(&generator, factor, &helper);
         let failed = mem::replace(&mut self.generator, next);
         if next_length > length {
             self.helper = failed;
@@ -87,9 +90,9 @@ fn next_length(length: usize, count: usize) -> usize
 // A shortest generator of a stretch.
 pub(crate) fn berlekamp_massey<F: Field>(stretch: &[u32]) -> Polynomial
     requires { length stretch.now ≤ 32 }
-    ensures not_empty { 0 < length result.items }
-    ensures short { let L = length result.items - 1 in 2 * L ≤ length stretch.now → Short F.Field.arithmetic stretch.now L result.items }
-    ensures long { let L = length result.items - 1 in length stretch.now < 2 * L → Long F.Field.arithmetic stretch.now L result.items }
+    ensures not_empty { 0 < array_vec_len result }
+    ensures short { let L = array_vec_len result - 1 in 2 * L ≤ length stretch.now → Short F.arithmetic stretch.now L result.items }
+    ensures long { let L = array_vec_len result - 1 in length stretch.now < 2 * L → Long F.arithmetic stretch.now L result.items }
 {
     let mut state = State::new();
     // A plain loop: what the generator gives at a number takes those before it too, so its place k is needed.

@@ -12,7 +12,7 @@ pub const MIN_MEMORY: usize = MAX_STRETCH / 2 + 1;
 
 // Whether every number is a code.
 fn check_codes<F: Field>(numbers: &[u32]) -> Result<(), Denial>
-    ensures { Asks (codes_question F.Field.arithmetic numbers.now) result }
+    ensures { Asks (codes_question F.arithmetic numbers.now) result }
 {
     match numbers.iter().position(|number| !F::is_code(*number)) {
         Some(index) => Err(Denial::NoCode { index }),
@@ -23,11 +23,11 @@ fn check_codes<F: Field>(numbers: &[u32]) -> Result<(), Denial>
 // A generator of a stretch is a list of codes, the last of them 1, whose products with as many numbers in a row of the stretch add up to 0,
 // wherever in the stretch these stand. Its length is one less than its number of codes.
 //
-// Writes the shortest generator of the stretch to the front of the memory, and answers its length. What stands behind it in the memory
-// stays. The call is denied where the stretch has more than 32 numbers or a number that is no code, where the memory has fewer than 17
-// numbers, and where the generator is longer than half of the stretch; it then alters nothing.
+// Writes the shortest generator of the stretch to the front of the memory, which the caller lends since nothing is allocated, and answers
+// its length. What stands behind it in the memory stays. The call is denied where the stretch has more than 32 numbers or a number that is
+// no code, where the memory has fewer than 17 numbers, and where the generator is longer than half of the stretch; it then alters nothing.
 pub fn shortest_generator<F: Field>(stretch: &[u32], memory: &mut [u32]) -> Result<usize, Denial>
-    ensures { Finds F.Field.arithmetic stretch.now memory.old memory.new result }
+    ensures { Finds F.arithmetic stretch.now memory.old memory.new result }
 {
     if stretch.len() > MAX_STRETCH {
         return Err(Denial::StretchTooLong);

@@ -25,7 +25,7 @@ pub(crate) fn one() -> Polynomial
 
 // The total of the products of two lists, place by place, as far as both go.
 pub fn dot_product<F: Field>(first: &[u32], second: &[u32]) -> u32
-    ensures { result ≡ dot F.Field.arithmetic first.now second.now }
+    ensures { result ≡ dot F.arithmetic first.now second.now }
 {
     first
         .iter()
@@ -33,32 +33,42 @@ pub fn dot_product<F: Field>(first: &[u32], second: &[u32]) -> u32
         .fold(0, |total, (x, y)| F::add(total, F::mul(*x, *y)))
 }
 
-// The coefficient at an index of z^shift times a polynomial.
-fn shifted(polynomial: &[u32], shift: usize, index: usize) -> u32
-    ensures { result ≡ shifted_at shift polynomial.now index }
-{
-    if index < shift {
-        0
-    } else {
-        polynomial.get(index - shift).copied().unwrap_or(0)
+// z^shift times a polynomial.
+#[derive(Clone, Copy)]
+pub(crate) struct Shifted<'a> {
+    pub polynomial: &'a [u32],
+    pub shift: usize,
+}
+
+impl<'a> Shifted<'a> {
+    // The coefficient at an index, which is 0 past the last one.
+    fn coefficient(&self, index: usize) -> u32
+        ensures { result ≡ shifted_at self.now.shift self.now.polynomial.now index }
+    {
+        if index < self.shift {
+            0
+        } else {
+            self.polynomial
+                .get(index - self.shift)
+                .copied()
+                .unwrap_or(0)
+        }
     }
 }
 
-// The coefficients of z^p * first + factor * z^e * second, as many as z^p * first has.
+// The coefficients of first + factor * second, as many as the first has. They fit a polynomial.
 pub(crate) fn combine<F: Field>(
-    first: &[u32],
-    p: usize,
+    first: &Shifted<'_>,
     factor: u32,
-    second: &[u32],
-    e: usize,
+    second: &Shifted<'_>,
 ) -> Polynomial
-    requires { p + length first.now ≤ COEFFICIENTS }
-    ensures { Combined F.Field.arithmetic p first.now factor e second.now result.items }
+    requires { first.now.shift + length first.now.polynomial.now ≤ 33 }
+    ensures { Combined F.arithmetic first.now.shift first.now.polynomial.now factor second.now.shift second.now.polynomial.now result.items }
 {
     let mut sum = Polynomial::new();
-    // A plain loop: i is the exponent of z that `shifted` asks for.
-    for i in 0..p + first.len() {
-        sum.push(F::add(shifted(first, p, i), F::mul(factor, shifted(second, e, i))));
+    // A plain loop: the index is the exponent of z on both sides, and to collect into an `ArrayVec` answers a `Result`.
+    for i in 0..first.shift + first.polynomial.len() {
+        sum.push(F::add(first.coefficient(i), F::mul(factor, second.coefficient(i))));
     }
     sum
 }

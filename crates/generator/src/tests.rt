@@ -1,2 +1,3 @@
 mod generators;
+mod products;
 mod sums;

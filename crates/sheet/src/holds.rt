@@ -12,7 +12,7 @@ use denial::Denial;
 // No held sheet holds more marks.
 pub const MAX_HELD: usize = 32;
 
-// Marks that are held and not flushed are lost when the sheet is let go.
+// Marks that are held and not flushed are lost when the sheet is dropped.
 #[derive(Drop)]
 pub struct Held<S> {
     below: S,
@@ -30,7 +30,7 @@ impl<S: Readable> Held<S> {
     // The mark that is held for a block.
     #[tactic(auto, using(crate::specs::Overlays::over_length, crate::proofs::Overlays::over_held, crate::proofs::Overlays::shows_below))]
     fn held_mark(&self, block: usize) -> Option<u32>
-        ensures { Shows (holding self.now) (S.Readable.marks self.now.below) block result }
+        ensures { Shows (holding self.now) (S.marks self.now.below) block result }
     {
         let index = self.position(block)?;
         Some(self.records[index].mark)
@@ -41,7 +41,7 @@ impl<S: Writable> Held<S> {
     pub fn new(below: S) -> Held<S>
         ensures below { result.below ≡ below }
         ensures none { holding result ≡ [] }
-        ensures list { overlaid S.Readable.marks result ≡ S.Readable.marks below }
+        ensures list { overlaid S.marks result ≡ S.marks below }
     {
         Held {
             below,
@@ -53,8 +53,8 @@ impl<S: Writable> Held<S> {
     #[tactic(auto, using(crate::proofs::Overlays::over_last))]
     pub fn flush(&mut self)
         ensures none { holding self.new ≡ [] }
-        ensures list { overlaid S.Readable.marks self.new ≡ overlaid S.Readable.marks self.old }
-        ensures below { S.Readable.marks self.new.below ≡ overlaid S.Readable.marks self.old }
+        ensures list { overlaid S.marks self.new ≡ overlaid S.marks self.old }
+        ensures below { S.marks self.new.below ≡ overlaid S.marks self.old }
     {
         while let Some(held) = self.records.pop() {
             self.put_below(held);
@@ -64,7 +64,7 @@ impl<S: Writable> Held<S> {
     // Writes a mark below. A held block is one of the sheet, so the write is granted.
     fn put_below(&mut self, held: Record)
         ensures held { holding self.new ≡ holding self.old }
-        ensures below { S.Readable.marks self.new.below ≡ slice_set (S.Readable.marks self.old.below) held.block held.mark }
+        ensures below { S.marks self.new.below ≡ slice_set (S.marks self.old.below) held.block held.mark }
     {
         let _ = self.below.write(held.block, held.mark);
     }
@@ -72,8 +72,8 @@ impl<S: Writable> Held<S> {
     // Replaces the mark that is held for a block, which is at an index.
     fn replace(&mut self, index: usize, written: Record)
         requires { HeldAt written.block (holding self.old) index }
-        ensures list { overlaid S.Readable.marks self.new ≡ slice_set (overlaid S.Readable.marks self.old) written.block written.mark }
-        ensures put { HeldPuts S.Readable.marks self.old written.block written.mark self.new }
+        ensures list { overlaid S.marks self.new ≡ slice_set (overlaid S.marks self.old) written.block written.mark }
+        ensures put { HeldPuts S.marks self.old written.block written.mark self.new }
     {
         self.records[index] = written;
     }
@@ -82,9 +82,9 @@ impl<S: Writable> Held<S> {
     #[tactic(auto, using(crate::specs::Overlays::over_length, crate::proofs::Overlays::over_below, crate::proofs::Overlays::over_last))]
     fn add(&mut self, written: Record) -> Result<(), Denial>
         requires absent { Absent written.block (holding self.old) }
-        requires inside { written.block < length (overlaid S.Readable.marks self.old) }
-        ensures wrote { Writes (overlaid S.Readable.marks) self.old written.block written.mark self.new result }
-        ensures put { OnOk result (HeldPuts S.Readable.marks self.old written.block written.mark self.new) }
+        requires inside { written.block < length (overlaid S.marks self.old) }
+        ensures wrote { Writes (overlaid S.marks) self.old written.block written.mark self.new result }
+        ensures put { OnOk result (HeldPuts S.marks self.old written.block written.mark self.new) }
     {
         if self.records.is_full() {
             self.below.write(written.block, written.mark)
@@ -96,7 +96,7 @@ impl<S: Writable> Held<S> {
 }
 
 impl<S: Readable> Readable for Held<S> {
-    ghost marks = { overlaid S.Readable.marks };
+    ghost marks = { overlaid S.marks };
 
     #[tactic(auto, using(crate::specs::Overlays::over_length))]
     fn len(&self) -> usize {
@@ -111,13 +111,13 @@ impl<S: Readable> Readable for Held<S> {
         }
     }
 
-    ghost short = { λ h. over_short (holding h) (S.Readable.marks h.below) (S.Readable.short h.below) };
+    ghost short = { λ h. over_short (holding h) (S.marks h.below) (S.short h.below) };
 }
 
 impl<S: Writable> Writable for Held<S> {
     fn write(&mut self, block: usize, mark: u32) -> Result<(), Denial>
-        ensures wrote { Writes (overlaid S.Readable.marks) self.old block mark self.new result }
-        ensures put { OnOk result (HeldPuts S.Readable.marks self.old block mark self.new) }
+        ensures wrote { Writes (overlaid S.marks) self.old block mark self.new result }
+        ensures put { OnOk result (HeldPuts S.marks self.old block mark self.new) }
     {
         check_block(block, self.len())?;
         match self.position(block) {

@@ -38,22 +38,22 @@ impl<L: Readable, R: Readable> Joined<L, R> {
     pub fn new(first: L, second: R) -> Joined<L, R>
         ensures first { result.first ≡ first }
         ensures second { result.second ≡ second }
-        ensures list { joined_marks L.Readable.marks R.Readable.marks result ≡ joined (L.Readable.marks first) (R.Readable.marks second) }
+        ensures list { joined_marks L.marks R.marks result ≡ joined (L.marks first) (R.marks second) }
     {
         Joined { first, second }
     }
 
-    // The part that has a block, where a read or a write answers for the block.
+    // The part that has a block, with the number of the block there; a read or a write of the part answers for the block.
     #[tactic(auto, using(crate::proofs::Ends::found))]
     fn part(&self, block: usize) -> Result<Part, Denial>
-        ensures { Finds L.Readable.marks R.Readable.marks self.now block result }
+        ensures { Finds L.marks R.marks self.now block result }
     {
         locate(block, self.first.len(), self.second.len())
     }
 }
 
 impl<L: Readable, R: Readable> Readable for Joined<L, R> {
-    ghost marks = { joined_marks L.Readable.marks R.Readable.marks };
+    ghost marks = { joined_marks L.marks R.marks };
 
     #[tactic(auto, using(crate::proofs::Ends::joined_length))]
     fn len(&self) -> usize {
@@ -67,13 +67,13 @@ impl<L: Readable, R: Readable> Readable for Joined<L, R> {
         }
     }
 
-    ghost short = { λ s. cut_short (L.Readable.marks s.first ++ R.Readable.marks s.second) };
+    ghost short = { λ s. cut_short (L.marks s.first ++ R.marks s.second) };
 }
 
 impl<L: Writable, R: Writable> Writable for Joined<L, R> {
     fn write(&mut self, block: usize, mark: u32) -> Result<(), Denial>
-        ensures wrote { Writes (joined_marks L.Readable.marks R.Readable.marks) self.old block mark self.new result }
-        ensures put { OnOk result (JoinedPuts L.Readable.marks R.Readable.marks self.old block mark self.new) }
+        ensures wrote { Writes (joined_marks L.marks R.marks) self.old block mark self.new result }
+        ensures put { OnOk result (JoinedPuts L.marks R.marks self.old block mark self.new) }
     {
         match self.part(block)? {
             Part::First(at) => self.first.write(at, mark),

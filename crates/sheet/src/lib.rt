@@ -24,7 +24,7 @@ pub use tables::Table;
 // No sheet has more blocks: what a longer source holds behind them is not part of its sheet.
 pub const MAX_BLOCKS: usize = 65_536;
 
-// How many of the numbers of a source are blocks.
+// The number of blocks of a sheet that is cut from so many numbers or blocks.
 fn block_count(numbers: usize) -> usize
     ensures { result ≡ min numbers 65536 }
 {
@@ -61,7 +61,8 @@ pub trait Readable {
 
 // A readable sheet whose marks can be written too.
 pub trait Writable: Readable {
-    // Puts a mark at a block, and alters no other block nor their number. A denied write alters nothing.
+    // Puts a mark at a block, and alters no other block and not the number of blocks. A denied write alters nothing. The two numbers are
+    // parameters of their own, as a caller has them apart.
     fn write(&mut self, block: usize, mark: u32) -> Result<(), Denial>
-        ensures { Writes Self.Readable.marks self.old block mark self.new result };
+        ensures { Writes Self.marks self.old block mark self.new result };
 }

@@ -29,7 +29,7 @@ impl<T: Source> Readable for T {
     #[tactic(auto, using(crate::proofs::Cuts::cut_number))]
     fn read(&self, block: usize) -> Result<u32, Denial> {
         check_block(block, self.len())?;
-        self.number(block).ok_or(Denial::BlockOutside { block })
+        Ok(self.number(block).unwrap())
     }
 
     ghost short = { λ s. cut_short (T.numbers s) };

@@ -40,6 +40,21 @@ fn cuts_a_long_strip(rt: HostRuntime) {
     );
 }
 
+// A source has numbers past the cut too.
+#[test]
+fn tells_the_numbers_of_a_source(rt: HostRuntime) {
+    let bytes = [9u8; 65_537];
+    let strip = Strip::new(&bytes);
+    assert_eq!(rt; strip.count(), 65_537);
+    assert_eq!(rt; strip.number(65_536), Some(9));
+    assert_eq!(rt; strip.number(65_537), None);
+    let mut numbers = [7, 4_294_967_295];
+    let table = Table::new(&mut numbers);
+    assert_eq!(rt; table.count(), 2);
+    assert_eq!(rt; table.number(1), Some(4_294_967_295));
+    assert_eq!(rt; table.number(2), None);
+}
+
 // What a caller knows of its numbers once the table over them is gone.
 fn put_mark(numbers: &mut [u32], block: usize, mark: u32) -> Result<(), Denial>
     ensures granted { OnOk result (numbers.new ≡ slice_set numbers.old block mark) }

@@ -12,7 +12,7 @@ use std::io::Read;
 
 const PLACES: usize = 16;
 
-// Adds the line of a sum.
+// Adds the line of a sum. Here and below, a clause says what a call adds to the text.
 fn add_sum(text: &mut String, kind: u8, place: usize, sum: u32) -> Result<(), AllocError>
     ensures { OnOk result (string_bytes text.new ≡ string_bytes text.old ++ line_of_sum kind place sum) }
 {
@@ -22,7 +22,7 @@ fn add_sum(text: &mut String, kind: u8, place: usize, sum: u32) -> Result<(), Al
 // Adds a line for the sum at each of the first places.
 #[tactic(auto, unfolding(crate::specs::Reports::lines_of_sums))]
 fn add_sums<F: Field, S: Readable>(text: &mut String, sheet: &S) -> Result<(), AllocError>
-    ensures { OnOk result (string_bytes text.new ≡ string_bytes text.old ++ lines_of_sums F.Field.arithmetic (S.Readable.marks sheet.now) 16) }
+    ensures { OnOk result (string_bytes text.new ≡ string_bytes text.old ++ lines_of_sums F.arithmetic (S.marks sheet.now) 16) }
 {
     for place in 0..PLACES {
         let sum = sum_at::<F, S>(sheet, place).unwrap();

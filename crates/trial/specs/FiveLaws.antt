@@ -23,5 +23,5 @@ pub five_field : RemainderField 5 2 255 1 five_squares
 five_field = record {
   laws = five_laws;
   repeated = λ i h. square_power five_products 2 (omega arith) five_squares refl 1 tt i (omega arith);
-  halves = refl;
+  size_is = refl;
 }

@@ -10,7 +10,7 @@ use field::{FermatPrime, Field};
 use generator::dot_product;
 
 // No stretch of the trial is longer.
-pub const LONGEST: usize = 7;
+pub(crate) const LONGEST: usize = 7;
 
 // A generator of that length has so many codes.
 const MOST_CODES: usize = LONGEST + 1;
@@ -34,7 +34,7 @@ impl Lists {
     }
 
     // The list of the digits of a number, the lowest first: the numbers below the count give all lists.
-    pub(crate) fn get(self, number: u32) -> Codes
+    pub(crate) fn list(self, number: u32) -> Codes
         ensures size { array_vec_len result ≡ self.length }
         ensures each { (i : ℕ) → i < self.length → slice_index result.items i ≡ number / 5 ^ i % 5 }
     {
@@ -47,7 +47,7 @@ impl Lists {
         codes
     }
 
-    // The last of these lists that, with a 1 behind it, is a generator of the stretch.
+    // The last generator of the stretch that is one of these lists with a 1 behind it.
     pub(crate) fn generator_of(self, stretch: &[u32]) -> Option<Found>
         ensures none { IfNone result ((g : List ℕ) → ¬ Generates five self.length g stretch.now) }
         ensures generates { IfSome result (λ found. Generates five self.length found.generator.items stretch.now) }
@@ -55,7 +55,7 @@ impl Lists {
     {
         let mut found = None;
         for number in 0..self.count() {
-            let mut generator = self.get(number);
+            let mut generator = self.list(number);
             generator.push(1);
             if generates::<Five>(&generator, stretch) {
                 found = Some(Found {
@@ -92,6 +92,7 @@ pub(crate) fn shortest(stretch: &[u32]) -> Option<Found>
     ensures shortest { IfSome result (λ found. Shortest five (array_vec_len found.generator - 1) found.generator.items stretch.now) }
     ensures only { IfSome result (λ found. IsTrue found.only ↔ Only five (array_vec_len found.generator - 1) found.generator.items stretch.now) }
 {
+    // A plain loop: the closure of a `find_map` would have to ask that the length is at most 7.
     for length in 0..=LONGEST {
         let found = Lists { length }.generator_of(stretch);
         if found.is_some() {

@@ -6,7 +6,8 @@ use field::FermatPrime;
 
 const SQUARES: [u32; 2] = [2, 4];
 
-pub struct Five;
+#[derive(Clone, Copy)]
+pub(crate) struct Five;
 
 impl FermatPrime for Five {
     ghost SIZE = { 5 };
@@ -27,9 +28,9 @@ impl FermatPrime for Five {
 
     ghost squares = { five_squares };
 
-    ghost lawful = { five_field };
-
     fn squares() -> &'static [u32] {
         &SQUARES
     }
+
+    ghost lawful = { five_field };
 }

@@ -18,7 +18,7 @@ mod five_field;
 const BEFORE: [u32; 18] = [9; 18];
 
 // How a comparison came out.
-#[derive(Drop)]
+#[derive(Clone, Copy)]
 enum Outcome {
     // The library grants the one generator of the least length, which is at most half the length of the stretch.
     Granted,
@@ -78,7 +78,7 @@ fn compare_all(stretches: Lists) -> Tally
 {
     let mut tally = Tally::default();
     for number in 0..stretches.count() {
-        tally.count(compare(&stretches.get(number)));
+        tally.count(compare(&stretches.list(number)));
     }
     tally
 }

@@ -7,5 +7,5 @@ invariant-loop-i g l =
     let A = g.F.Field.arithmetic in
     record {
       size : length l.sum.items ≡ l.i;
-      each : (k : ℕ) → k < l.i → get_or l.sum.items k 0 ≡ A.plus (shifted_at l.p l.first k) (A.times l.factor (shifted_at l.e l.second k));
+      each : (k : ℕ) → k < l.i → get_or l.sum.items k 0 ≡ A.plus (shifted_at l.first.shift l.first.polynomial.now k) (A.times l.factor (shifted_at l.second.shift l.second.polynomial.now k));
     }

@@ -34,7 +34,7 @@ loop-square-init g c =
     let n = c.args.exponent % (g.P.FermatPrime.SIZE - 1) in
     let k = length g.P.FermatPrime.squares in
     let all : k - 0 ≡ k = omega arith in
-    let order : 2 ^ k ≡ g.P.FermatPrime.SIZE - 1 = omega (arith, prime.halves) in
+    let order : 2 ^ k ≡ g.P.FermatPrime.SIZE - 1 = omega (arith, prime.size_is) in
     rw c.order.ensures (
       L.times_one (raised times (raised times base 1) n) (power_code (products L) (raised times base 1) n)
           ∙ ap (λ x. raised times x n) (power_one (products L) base L.base_code),

@@ -10,7 +10,7 @@ loop-number-preserved c =
     let L = c.args.self.length in
     let l = c.loop-number in
     let list : c.push.new.self.items ≡ candidate L l.number =
-    c.push.ensures.items ∙ ap (λ (xs : List ℕ). xs ++ 1 ∷ []) (is_digits _ L l.number c.get-generator.ensures.size c.get-generator.ensures.each) in
+    c.push.ensures.items ∙ ap (λ (xs : List ℕ). xs ++ 1 ∷ []) (is_digits _ L l.number c.list-generator.ensures.size c.list-generator.ensures.each) in
     let test = rw (c.deref.ensures.0, list) at c.generates.ensures in
     elim c.if-generates.branch [
       | then-generates w ↦

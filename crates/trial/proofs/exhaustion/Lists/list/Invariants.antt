@@ -1,5 +1,5 @@
 use Rattle.std.proofs.Common.{◌≡◌, ℕ, ◌/◌, ◌%◌, ◌^◌, ◌<◌, length, get_or}
-use Rattle.trial.proofs.exhaustion.Lists.get.Given as goal
+use Rattle.trial.proofs.exhaustion.Lists.list.Given as goal
 
 abbrev pub invariant-loop-place : goal.invariant-loop-place
 invariant-loop-place l =

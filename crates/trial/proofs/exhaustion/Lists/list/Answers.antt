@@ -1,7 +1,7 @@
 use Rattle.std.proofs.Common.{◌≡◌, ℕ, ◌+◌, ◌/◌, ◌%◌, ◌^◌, ◌<◌, List, [], ◌∷◌, ◌++◌, length, get_or, sym, ap, ◌∙◌, add-one, below_more, pow-suc, arith}
 use Rattle.std.proofs.Math.Nat.{div-div-eq-div-mul}
 use Rattle.std.proofs.lemmas.List.{get_or_append_left, get_or_push}
-use Rattle.trial.proofs.exhaustion.Lists.get.Goals as goal
+use Rattle.trial.proofs.exhaustion.Lists.list.Goals as goal
 
 next_digit : (n i : ℕ) → n / 5 ^ i / 5 ≡ n / 5 ^ (i + 1)
 next_digit n i = div-div-eq-div-mul n (5 ^ i) 5 ∙ ap (λ (x : ℕ). n / x) (sym (ap (λ (k : ℕ). 5 ^ k) (add-one i) ∙ pow-suc 5 i))

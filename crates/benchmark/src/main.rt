@@ -17,6 +17,7 @@ struct Sequence {
 }
 
 impl Sequence {
+    // The next number, which the sequence keeps.
     fn next_number(&mut self) -> u32
         ensures step { self.new.last ≡ (self.old.last * 1664525 + 1013904223) % 2 ^ 32 }
         ensures number { result ≡ self.new.last }
@@ -30,7 +31,7 @@ impl Sequence {
 
     // A stretch of codes from the next numbers.
     fn next_stretch<F: Field>(&mut self) -> [u32; MAX_STRETCH] {
-        array::from_fn(|_place| F::add(self.next_number() >> 8, 0))
+        array::from_fn(|_place| (self.next_number() >> 8) % F::size())
     }
 }
 

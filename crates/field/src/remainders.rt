@@ -4,13 +4,14 @@ ghost use Rattle.field.specs.Prime.{RemainderField, remainders};
 
 use crate::Field;
 
-// A prime q = 2^k + 1, and the numbers of the field of the remainders by q. The base has the order 2^k, so its powers are all codes but 0.
+// A prime q = 2^k + 1, and the numbers of the field of the remainders by q. The base has the order 2^k.
 pub trait FermatPrime {
     // The prime.
     ghost SIZE: { ℕ };
 
     const SIZE: u32;
 
+    // A code whose powers are all codes but 0.
     ghost BASE: { ℕ };
 
     const BASE: u32;

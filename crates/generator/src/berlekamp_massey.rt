@@ -90,7 +90,6 @@ fn next_length(length: usize, count: usize) -> usize
 // A shortest generator of a stretch.
 pub(crate) fn berlekamp_massey<F: Field>(stretch: &[u32]) -> Polynomial
     requires { length stretch.now ≤ 32 }
-    ensures not_empty { 0 < array_vec_len result }
     ensures short { let L = array_vec_len result - 1 in 2 * L ≤ length stretch.now → Short F.arithmetic stretch.now L result.items }
     ensures long { let L = array_vec_len result - 1 in length stretch.now < 2 * L → Long F.arithmetic stretch.now L result.items }
 {

@@ -23,6 +23,13 @@ pub(crate) fn one() -> Polynomial
     one
 }
 
+// A total and one product more.
+fn add_product<F: Field>(total: u32, x: u32, y: u32) -> u32
+    ensures { result ≡ F.arithmetic.plus total (F.arithmetic.times x y) }
+{
+    F::add(total, F::mul(x, y))
+}
+
 // The total of the products of two lists, place by place, as far as both go.
 pub fn dot_product<F: Field>(first: &[u32], second: &[u32]) -> u32
     ensures { result ≡ dot F.arithmetic first.now second.now }
@@ -30,7 +37,7 @@ pub fn dot_product<F: Field>(first: &[u32], second: &[u32]) -> u32
     first
         .iter()
         .zip(second)
-        .fold(0, |total, (x, y)| F::add(total, F::mul(*x, *y)))
+        .fold(0, |total, (x, y)| add_product::<F>(total, *x, *y))
 }
 
 // z^shift times a polynomial.

@@ -1,3 +1,5 @@
 pub mod Cuts
 pub mod Ends
+pub mod Holding
 pub mod Overlays
+pub mod Written

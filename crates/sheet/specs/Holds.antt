@@ -8,7 +8,7 @@ use Rattle.sheet.specs.declared.records.Record.{Record}
 
 -- the marks that are held
 abbrev pub holding : {S : Type 0} → Held S → List Record
-holding h = h.records.items
+holding h = h.records.list.items
 
 -- the marks below with the held ones put over them
 abbrev pub overlaid : {S : Type 0} → (S → List ℕ) → Held S → List ℕ

@@ -4,7 +4,7 @@ ghost use Rattle.sheet.specs.Holds.{HeldPuts, Shows, holding, overlaid};
 ghost use Rattle.sheet.specs.Marks.{Writes};
 ghost use Rattle.sheet.specs.Overlays.{Absent, HeldAt, over_short};
 
-use crate::records::Record;
+use crate::records::{Record, Records};
 use crate::{Readable, Writable, check_block};
 use arrayvec::ArrayVec;
 use denial::Denial;
@@ -16,7 +16,7 @@ pub const MAX_HELD: usize = 32;
 #[derive(Drop)]
 pub struct Held<S> {
     below: S,
-    records: ArrayVec<Record, MAX_HELD>,
+    records: Records,
 }
 
 impl<S: Readable> Held<S> {
@@ -24,7 +24,10 @@ impl<S: Readable> Held<S> {
     fn position(&self, block: usize) -> Option<usize>
         ensures { MatchOption result (Absent block (holding self.now)) (λ i. HeldAt block (holding self.now) i) }
     {
-        self.records.iter().position(|held| held.block == block)
+        self.records
+            .list
+            .iter()
+            .position(|held| held.block == block)
     }
 
     // The mark that is held for a block.
@@ -33,7 +36,7 @@ impl<S: Readable> Held<S> {
         ensures { Shows (holding self.now) (S.marks self.now.below) block result }
     {
         let index = self.position(block)?;
-        Some(self.records[index].mark)
+        Some(self.records.list[index].mark)
     }
 }
 
@@ -45,7 +48,9 @@ impl<S: Writable> Held<S> {
     {
         Held {
             below,
-            records: ArrayVec::new(),
+            records: Records {
+                list: ArrayVec::new(),
+            },
         }
     }
 
@@ -56,12 +61,13 @@ impl<S: Writable> Held<S> {
         ensures list { overlaid S.marks self.new ≡ overlaid S.marks self.old }
         ensures below { S.marks self.new.below ≡ overlaid S.marks self.old }
     {
-        while let Some(held) = self.records.pop() {
+        while let Some(held) = self.records.list.pop() {
             self.put_below(held);
         }
     }
 
     // Writes a mark below. A held block is one of the sheet, so the write is granted.
+    #[tactic(auto, using(crate::proofs::Written::written))]
     fn put_below(&mut self, held: Record)
         ensures held { holding self.new ≡ holding self.old }
         ensures below { S.marks self.new.below ≡ slice_set (S.marks self.old.below) held.block held.mark }
@@ -75,21 +81,21 @@ impl<S: Writable> Held<S> {
         ensures list { overlaid S.marks self.new ≡ slice_set (overlaid S.marks self.old) written.block written.mark }
         ensures put { HeldPuts S.marks self.old written.block written.mark self.new }
     {
-        self.records[index] = written;
+        self.records.list[index] = written;
     }
 
     // Holds a mark for a block that none is held for; where no more can be held, it goes below.
-    #[tactic(auto, using(crate::specs::Overlays::over_length, crate::proofs::Overlays::over_below, crate::proofs::Overlays::over_last))]
+    #[tactic(auto, using(crate::specs::Overlays::over_length, crate::proofs::Overlays::over_below, crate::proofs::Overlays::over_last, crate::proofs::Holding::wrote_below, crate::proofs::Holding::put_below))]
     fn add(&mut self, written: Record) -> Result<(), Denial>
         requires absent { Absent written.block (holding self.old) }
         requires inside { written.block < length (overlaid S.marks self.old) }
         ensures wrote { Writes (overlaid S.marks) self.old written.block written.mark self.new result }
         ensures put { OnOk result (HeldPuts S.marks self.old written.block written.mark self.new) }
     {
-        if self.records.is_full() {
+        if self.records.list.is_full() {
             self.below.write(written.block, written.mark)
         } else {
-            self.records.push(written);
+            self.records.list.push(written);
             Ok(())
         }
     }
@@ -97,6 +103,8 @@ impl<S: Writable> Held<S> {
 
 impl<S: Readable> Readable for Held<S> {
     ghost marks = { overlaid S.marks };
+
+    ghost short = { λ h. over_short (holding h) (S.marks h.below) (S.short h.below) };
 
     #[tactic(auto, using(crate::specs::Overlays::over_length))]
     fn len(&self) -> usize {
@@ -110,8 +118,6 @@ impl<S: Readable> Readable for Held<S> {
             None => self.below.read(block),
         }
     }
-
-    ghost short = { λ h. over_short (holding h) (S.marks h.below) (S.short h.below) };
 }
 
 impl<S: Writable> Writable for Held<S> {

@@ -55,6 +55,8 @@ impl<L: Readable, R: Readable> Joined<L, R> {
 impl<L: Readable, R: Readable> Readable for Joined<L, R> {
     ghost marks = { joined_marks L.marks R.marks };
 
+    ghost short = { λ s. cut_short (L.marks s.first ++ R.marks s.second) };
+
     #[tactic(auto, using(crate::proofs::Ends::joined_length))]
     fn len(&self) -> usize {
         block_count(self.first.len() + self.second.len())
@@ -66,8 +68,6 @@ impl<L: Readable, R: Readable> Readable for Joined<L, R> {
             Part::Second(at) => self.second.read(at),
         }
     }
-
-    ghost short = { λ s. cut_short (L.marks s.first ++ R.marks s.second) };
 }
 
 impl<L: Writable, R: Writable> Writable for Joined<L, R> {

@@ -47,6 +47,9 @@ pub trait Readable {
     // The marks, from block 0 on.
     ghost marks: { Self → List ℕ };
 
+    // No sheet has more than `MAX_BLOCKS` marks. This stands above the functions, so that clauses may name it too.
+    ghost short: { (s : Self) → length (marks s) ≤ 65536 };
+
     // The number of blocks.
     fn len(&self) -> usize
         ensures { result ≡ length (marks self.now) };
@@ -54,9 +57,6 @@ pub trait Readable {
     // The mark of a block.
     fn read(&self, block: usize) -> Result<u32, Denial>
         ensures { Reads (marks self.now) block result };
-
-    // No sheet has more than `MAX_BLOCKS` marks.
-    ghost short: { (s : Self) → length (marks s) ≤ 65536 };
 }
 
 // A readable sheet whose marks can be written too.

@@ -1,8 +1,8 @@
 // What sheets are cut from.
 ghost use Rattle.std.specs.Prelude.{◌≡◌, ℕ, List, length, slice_get};
-ghost use Rattle.sheet.specs.Marks.{cut, cut_short};
+ghost use Rattle.sheet.specs.Marks.{Reads, cut};
 
-use crate::{Readable, block_count, check_block};
+use crate::{block_count, check_block};
 use denial::Denial;
 
 // The numbers that a sheet is cut from: its marks are the first 65,536 of them, or all of fewer.
@@ -16,21 +16,21 @@ pub trait Source {
     // The number at an index, if there is one.
     fn number(&self, index: usize) -> Option<u32>
         ensures { result ≡ slice_get (numbers self.now) index };
-}
 
-impl<T: Source> Readable for T {
-    ghost marks = { λ s. cut (T.numbers s) };
-
+    // The number of blocks of the sheet.
     #[tactic(auto, using(crate::proofs::Cuts::cut_length))]
-    fn len(&self) -> usize {
+    fn blocks(&self) -> usize
+        ensures { result ≡ length (cut (numbers self.now)) }
+    {
         block_count(self.count())
     }
 
+    // The mark of a block of the sheet.
     #[tactic(auto, using(crate::proofs::Cuts::cut_number))]
-    fn read(&self, block: usize) -> Result<u32, Denial> {
-        check_block(block, self.len())?;
+    fn mark(&self, block: usize) -> Result<u32, Denial>
+        ensures { Reads (cut (numbers self.now)) block result }
+    {
+        check_block(block, self.blocks())?;
         Ok(self.number(block).unwrap())
     }
-
-    ghost short = { λ s. cut_short (T.numbers s) };
 }

@@ -1,7 +1,10 @@
 // A strip: a sheet over the caller's bytes, one byte a mark.
 ghost use Rattle.std.specs.Prelude.{◌≡◌};
+ghost use Rattle.sheet.specs.Marks.{cut, cut_short};
 
+use crate::Readable;
 use crate::sources::Source;
+use denial::Denial;
 
 #[derive(Drop)]
 pub struct Strip<'a> {
@@ -25,5 +28,20 @@ impl<'a> Source for Strip<'a> {
 
     fn number(&self, index: usize) -> Option<u32> {
         self.bytes.get(index).copied().map(u32::from)
+    }
+}
+
+// A trait object needs an `impl` of each sheet's own, and not one for all sources.
+impl<'a> Readable for Strip<'a> {
+    ghost marks = { λ s. cut s.bytes.now };
+
+    ghost short = { λ s. cut_short s.bytes.now };
+
+    fn len(&self) -> usize {
+        self.blocks()
+    }
+
+    fn read(&self, block: usize) -> Result<u32, Denial> {
+        self.mark(block)
     }
 }

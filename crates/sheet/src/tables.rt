@@ -1,6 +1,6 @@
 // A table: a sheet over the caller's 32-bit numbers.
 ghost use Rattle.std.specs.Prelude.{◌≡◌, OnOk, slice_set};
-ghost use Rattle.sheet.specs.Marks.{Writes, cut};
+ghost use Rattle.sheet.specs.Marks.{Writes, cut, cut_short};
 
 use crate::sources::Source;
 use crate::{Readable, Writable, check_block};
@@ -30,6 +30,21 @@ impl<'a> Source for Table<'a> {
 
     fn number(&self, index: usize) -> Option<u32> {
         self.numbers.get(index).copied()
+    }
+}
+
+// A trait object needs an `impl` of each sheet's own, and not one for all sources.
+impl<'a> Readable for Table<'a> {
+    ghost marks = { λ t. cut t.numbers.now };
+
+    ghost short = { λ t. cut_short t.numbers.now };
+
+    fn len(&self) -> usize {
+        self.blocks()
+    }
+
+    fn read(&self, block: usize) -> Result<u32, Denial> {
+        self.mark(block)
     }
 }
 

@@ -1,5 +1,6 @@
 // Worked reads and writes, at the ends of sheets and past them.
-ghost use Rattle.std.specs.Prelude.{◌≡◌, OnOk, OnErr, slice_set};
+ghost use Rattle.std.specs.Prelude.{◌≡◌, ◌≤◌, length, OnOk, OnErr, slice_set};
+ghost use Rattle.sheet.specs.Holds.{holding};
 
 use crate::*;
 
@@ -53,6 +54,18 @@ fn tells_the_numbers_of_a_source(rt: HostRuntime) {
     assert_eq!(rt; table.count(), 2);
     assert_eq!(rt; table.number(1), Some(4_294_967_295));
     assert_eq!(rt; table.number(2), None);
+}
+
+#[test]
+fn tells_the_sheet_of_a_source(rt: HostRuntime) {
+    let bytes = [9u8; 65_537];
+    let strip = Strip::new(&bytes);
+    assert_eq!(rt; strip.blocks(), 65_536);
+    assert_eq!(rt; strip.mark(65_535), Ok(9));
+    assert_eq!(rt;
+        strip.mark(65_536),
+        Err(Denial::BlockOutside { block: 65_536 })
+    );
 }
 
 // What a caller knows of its numbers once the table over them is gone.
@@ -126,6 +139,23 @@ fn holds_32_marks(rt: HostRuntime) {
     assert_eq!(rt; numbers[32], 7);
 }
 
+// What a caller knows of a held sheet that was lent to it.
+fn hold_mark(held: &mut Held<Table<'_>>, block: usize, mark: u32) -> Result<(), Denial>
+    ensures { length (holding held.new) ≤ 32 }
+{
+    held.write(block, mark)
+}
+
+#[test]
+fn holds_few_marks(rt: HostRuntime) {
+    let mut numbers = [0; 34];
+    let mut held = Held::new(Table::new(&mut numbers));
+    for block in 0..34 {
+        assert_eq!(rt; hold_mark(&mut held, block, 7), Ok(()));
+    }
+    assert_eq!(rt; held.read(33), Ok(7));
+}
+
 #[test]
 fn flushes_held_marks(rt: HostRuntime) {
     let mut numbers = [0; 3];
@@ -135,4 +165,25 @@ fn flushes_held_marks(rt: HostRuntime) {
     held.flush();
     assert_eq!(rt; held.read(2), Ok(5));
     assert_eq!(rt; numbers, [6, 0, 5]);
+}
+
+// What a caller knows of any sheet.
+fn count_blocks(sheet: &dyn Readable) -> usize
+    ensures { result ≤ 65536 }
+{
+    sheet.len()
+}
+
+fn put_number(sheet: &mut dyn Writable, block: usize, mark: u32) -> Result<(), Denial> {
+    sheet.write(block, mark)
+}
+
+#[test]
+fn counts_the_blocks_of_any_sheet(rt: HostRuntime) {
+    let mut numbers = [7, 8, 9];
+    let mut table = Table::new(&mut numbers);
+    assert_eq!(rt; put_number(&mut table, 2, 6), Ok(()));
+    assert_eq!(rt; count_blocks(&table), 3);
+    assert_eq!(rt; count_blocks(&Strip::new(b"\x05\x00")), 2);
+    assert_eq!(rt; numbers, [7, 8, 6]);
 }

@@ -1,6 +1,6 @@
 -- Reads and writes of a list with marks held over it.
-use Rattle.std.proofs.Common.{◌≡◌, ℕ, zero, suc, ◌<◌, ◌≢◌, List, [], ◌∷◌, ◌++◌, length, get_or, set, Ok, Err, Result, sym, refl, ap, ◌∙◌, arith, get_or-set_other, get_or-set_same, set-set}
-use Rattle.std.proofs.lemmas.List.{set_comm}
+use Rattle.std.proofs.Common.{◌≡◌, ℕ, zero, suc, ◌+◌, ◌<◌, ◌≤◌, ◌≢◌, List, [], ◌∷◌, ◌++◌, length, get_or, take, set, Ok, Err, Result, sym, refl, ap, ◌∙◌, arith, length-take, get_or-set_other, take-suc, get_or-set_same, take-suc-set, set-set}
+use lib.Seq.{set_comm, take-set-lt}
 use Rattle.denial.specs.declared.Denial.{Denial}
 use Rattle.sheet.specs.Marks.{Reads}
 use Rattle.sheet.specs.Overlays.{over, at, record_of, Absent, HeldAt, over_length}
@@ -65,3 +65,23 @@ over_replaced block mark (r ∷ held) marks (suc i) p =
 pub over_last : (held : List Record) (r : Record) (marks : List ℕ) → over (held ++ (r ∷ [])) marks ≡ over held (set marks r.block r.mark)
 over_last [] r marks = refl
 over_last (q ∷ held) r marks = ap (λ (xs : List ℕ). set xs q.block q.mark) (over_last held r marks)
+
+-- the first records, with one more and with one changed
+module _ (records : List Record) (n i m : ℕ) (r : Record) where
+  pub one_more : i ≡ length (take n records) → n ≤ length records → i < length records → m ≡ i + 1 → take m (set records i r) ≡ take n records ++ (r ∷ [])
+  one_more e h k f =
+      let same : i ≡ n = omega (arith, length-take n records) in
+      let next : m ≡ suc i = omega arith in
+      ap (λ (q : ℕ). take q (set records i r)) next ∙ take-suc-set records i r k ∙ ap (λ (q : ℕ). take q records ++ (r ∷ [])) same
+
+  pub one_changed : i < length (take n records) → take n (set records i r) ≡ set (take n records) i r
+  one_changed h = take-set-lt n records i r (omega (arith, length-take n records))
+
+-- the last of the first n records is taken away, and its mark is put below
+pub over_popped : (records : List Record) (n i m : ℕ) (marks : List ℕ) → n ≡ i + 1 → m ≡ i → n ≤ length records → over (take m records) (set marks (at records i).block (at records i).mark) ≡ over (take n records) marks
+over_popped records n i m marks e f h =
+    let last : n ≡ suc i = omega arith in
+    sym (ap (λ (q : ℕ). over (take q records) marks) last
+    ∙ ap (λ (held : List Record). over held marks) (take-suc records i (record_of 0 0) (omega arith))
+    ∙ over_last (take i records) (at records i) marks
+    ∙ ap (λ (q : ℕ). over (take q records) (set marks (at records i).block (at records i).mark)) (sym f))

@@ -1,12 +1,11 @@
 // A held sheet: a sheet that holds up to 32 marks back from the sheet below it.
-ghost use Rattle.std.specs.Prelude.{◌≡◌, ◌<◌, [], length, MatchOption, OnOk, slice_set};
-ghost use Rattle.sheet.specs.Holds.{HeldPuts, Shows, holding, overlaid};
+ghost use Rattle.std.specs.Prelude.{◌≡◌, ◌<◌, ◌≤◌, min, [], length, MatchOption, OnOk, slice_set};
+ghost use Rattle.sheet.specs.Holds.{HeldPuts, Pops, Shows, holding, overlaid};
 ghost use Rattle.sheet.specs.Marks.{Writes};
 ghost use Rattle.sheet.specs.Overlays.{Absent, HeldAt, over_short};
 
-use crate::records::{Record, Records};
+use crate::records::Record;
 use crate::{Readable, Writable, check_block};
-use arrayvec::ArrayVec;
 use denial::Denial;
 
 // No held sheet holds more marks.
@@ -16,18 +15,26 @@ pub const MAX_HELD: usize = 32;
 #[derive(Drop)]
 pub struct Held<S> {
     below: S,
-    records: Records,
+    // The first records are in use, as many as `count` says. An array, since with a vector of fixed capacity in its place a held sheet over
+    // a borrowed one could not be passed by value inside another type.
+    records: [Record; MAX_HELD],
+    count: usize,
 }
 
 impl<S: Readable> Held<S> {
+    // The records that are in use.
+    fn held(&self) -> &[Record]
+        ensures list { result.now ≡ holding self.now }
+        ensures len { length result.now ≡ min self.now.count 32 }
+    {
+        &self.records[0..self.count.min(MAX_HELD)]
+    }
+
     // The index of the first mark that is held for a block.
     fn position(&self, block: usize) -> Option<usize>
         ensures { MatchOption result (Absent block (holding self.now)) (λ i. HeldAt block (holding self.now) i) }
     {
-        self.records
-            .list
-            .iter()
-            .position(|held| held.block == block)
+        self.held().iter().position(|held| held.block == block)
     }
 
     // The mark that is held for a block.
@@ -36,7 +43,15 @@ impl<S: Readable> Held<S> {
         ensures { Shows (holding self.now) (S.marks self.now.below) block result }
     {
         let index = self.position(block)?;
-        Some(self.records.list[index].mark)
+        Some(self.held()[index].mark)
+    }
+
+    // The index of the record that the next mark is held in, unless all are in use.
+    fn vacancy(&self) -> Option<usize>
+        ensures { MatchOption result (32 ≤ length (holding self.now)) (λ i. (i < 32) × (i ≡ length (holding self.now))) }
+    {
+        let count = self.held().len();
+        if count < MAX_HELD { Some(count) } else { None }
     }
 }
 
@@ -48,22 +63,29 @@ impl<S: Writable> Held<S> {
     {
         Held {
             below,
-            records: Records {
-                list: ArrayVec::new(),
-            },
+            records: [Record::default(); MAX_HELD],
+            count: 0,
         }
     }
 
     // Writes all held marks below. The list stays, and is now the list below.
-    #[tactic(auto, using(crate::proofs::Overlays::over_last))]
     pub fn flush(&mut self)
         ensures none { holding self.new ≡ [] }
         ensures list { overlaid S.marks self.new ≡ overlaid S.marks self.old }
         ensures below { S.marks self.new.below ≡ overlaid S.marks self.old }
     {
-        while let Some(held) = self.records.list.pop() {
+        while let Some(held) = self.pop() {
             self.put_below(held);
         }
+    }
+
+    // Takes the last held mark away.
+    fn pop(&mut self) -> Option<Record>
+        ensures { Pops S.marks self.old self.new result }
+    {
+        let last = self.held().len().checked_sub(1)?;
+        self.count = last;
+        Some(self.records[last])
     }
 
     // Writes a mark below. A held block is one of the sheet, so the write is granted.
@@ -81,22 +103,23 @@ impl<S: Writable> Held<S> {
         ensures list { overlaid S.marks self.new ≡ slice_set (overlaid S.marks self.old) written.block written.mark }
         ensures put { HeldPuts S.marks self.old written.block written.mark self.new }
     {
-        self.records.list[index] = written;
+        self.records[index] = written;
     }
 
     // Holds a mark for a block that none is held for; where no more can be held, it goes below.
-    #[tactic(auto, using(crate::specs::Overlays::over_length, crate::proofs::Overlays::over_below, crate::proofs::Overlays::over_last, crate::proofs::Holding::wrote_below, crate::proofs::Holding::put_below))]
     fn add(&mut self, written: Record) -> Result<(), Denial>
         requires absent { Absent written.block (holding self.old) }
         requires inside { written.block < length (overlaid S.marks self.old) }
         ensures wrote { Writes (overlaid S.marks) self.old written.block written.mark self.new result }
         ensures put { OnOk result (HeldPuts S.marks self.old written.block written.mark self.new) }
     {
-        if self.records.list.is_full() {
-            self.below.write(written.block, written.mark)
-        } else {
-            self.records.list.push(written);
-            Ok(())
+        match self.vacancy() {
+            Some(index) => {
+                self.records[index] = written;
+                self.count = index + 1;
+                Ok(())
+            }
+            None => self.below.write(written.block, written.mark),
         }
     }
 }

@@ -16,21 +16,21 @@ pub trait Source {
     // The number at an index, if there is one.
     fn number(&self, index: usize) -> Option<u32>
         ensures { result ≡ slice_get (numbers self.now) index };
+}
 
-    // The number of blocks of the sheet.
-    #[tactic(auto, using(crate::proofs::Cuts::cut_length))]
-    fn blocks(&self) -> usize
-        ensures { result ≡ length (cut (numbers self.now)) }
-    {
-        block_count(self.count())
-    }
+// The number of blocks of the sheet that is cut from a source.
+#[tactic(auto, using(crate::proofs::Cuts::cut_length))]
+pub(crate) fn blocks<T: Source>(source: &T) -> usize
+    ensures { result ≡ length (cut (T.numbers source.now)) }
+{
+    block_count(source.count())
+}
 
-    // The mark of a block of the sheet.
-    #[tactic(auto, using(crate::proofs::Cuts::cut_number))]
-    fn mark(&self, block: usize) -> Result<u32, Denial>
-        ensures { Reads (cut (numbers self.now)) block result }
-    {
-        check_block(block, self.blocks())?;
-        Ok(self.number(block).unwrap())
-    }
+// The mark of a block of that sheet.
+#[tactic(auto, using(crate::proofs::Cuts::cut_number))]
+pub(crate) fn mark<T: Source>(source: &T, block: usize) -> Result<u32, Denial>
+    ensures { Reads (cut (T.numbers source.now)) block result }
+{
+    check_block(block, blocks(source))?;
+    Ok(source.number(block).unwrap())
 }

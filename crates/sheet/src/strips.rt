@@ -3,7 +3,7 @@ ghost use Rattle.std.specs.Prelude.{◌≡◌};
 ghost use Rattle.sheet.specs.Marks.{cut, cut_short};
 
 use crate::Readable;
-use crate::sources::Source;
+use crate::sources::{Source, blocks, mark};
 use denial::Denial;
 
 #[derive(Drop)]
@@ -31,17 +31,17 @@ impl<'a> Source for Strip<'a> {
     }
 }
 
-// A trait object needs an `impl` of each sheet's own, and not one for all sources.
+// A trait object needs an `impl` of the sheet's own, and not one for all sources.
 impl<'a> Readable for Strip<'a> {
     ghost marks = { λ s. cut s.bytes.now };
 
     ghost short = { λ s. cut_short s.bytes.now };
 
     fn len(&self) -> usize {
-        self.blocks()
+        blocks(self)
     }
 
     fn read(&self, block: usize) -> Result<u32, Denial> {
-        self.mark(block)
+        mark(self, block)
     }
 }

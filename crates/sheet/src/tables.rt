@@ -2,7 +2,7 @@
 ghost use Rattle.std.specs.Prelude.{◌≡◌, OnOk, slice_set};
 ghost use Rattle.sheet.specs.Marks.{Writes, cut, cut_short};
 
-use crate::sources::Source;
+use crate::sources::{Source, blocks, mark};
 use crate::{Readable, Writable, check_block};
 use denial::Denial;
 
@@ -33,18 +33,18 @@ impl<'a> Source for Table<'a> {
     }
 }
 
-// A trait object needs an `impl` of each sheet's own, and not one for all sources.
+// A trait object needs an `impl` of the sheet's own, and not one for all sources.
 impl<'a> Readable for Table<'a> {
     ghost marks = { λ t. cut t.numbers.now };
 
     ghost short = { λ t. cut_short t.numbers.now };
 
     fn len(&self) -> usize {
-        self.blocks()
+        blocks(self)
     }
 
     fn read(&self, block: usize) -> Result<u32, Denial> {
-        self.mark(block)
+        mark(self, block)
     }
 }
 

@@ -56,18 +56,6 @@ fn tells_the_numbers_of_a_source(rt: HostRuntime) {
     assert_eq!(rt; table.number(2), None);
 }
 
-#[test]
-fn tells_the_sheet_of_a_source(rt: HostRuntime) {
-    let bytes = [9u8; 65_537];
-    let strip = Strip::new(&bytes);
-    assert_eq!(rt; strip.blocks(), 65_536);
-    assert_eq!(rt; strip.mark(65_535), Ok(9));
-    assert_eq!(rt;
-        strip.mark(65_536),
-        Err(Denial::BlockOutside { block: 65_536 })
-    );
-}
-
 // What a caller knows of its numbers once the table over them is gone.
 fn put_mark(numbers: &mut [u32], block: usize, mark: u32) -> Result<(), Denial>
     ensures granted { OnOk result (numbers.new ≡ slice_set numbers.old block mark) }
